@@ -35,7 +35,7 @@ impl SheetFault {
 pub impl fmt::Display for SheetFault as SheetFaultDisplay {
     fn fmt<W: fmt::Write>(&self, f: &mut fmt::Formatter<W>) -> fmt::Result {
         match *self {
-            SheetFault::NoRoot => write!(f, "the sheet is empty or its first row is blank"),
+            SheetFault::NoRoot => write!(f, "it is empty or its first row is blank"),
             SheetFault::Unlawful(row) => write!(f, "row {row} is not lawful"),
         }
     }
