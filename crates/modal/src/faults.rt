@@ -112,7 +112,10 @@ impl WriteFault {
 pub impl fmt::Display for WriteFault as WriteFaultDisplay {
     fn fmt<W: fmt::Write>(&self, f: &mut fmt::Formatter<W>) -> fmt::Result {
         match *self {
-            WriteFault::TooShort(needed) => write!(f, "the buffer is shorter than the {needed} bytes needed"),
+            WriteFault::TooShort(needed) => write!(
+                f,
+                "the buffer is shorter than the {needed} bytes needed"
+            ),
         }
     }
 }

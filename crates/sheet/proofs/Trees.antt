@@ -9,7 +9,7 @@ use native.Mathlib.Numerals.{add-one}
 use native.Mathlib.Omega.{arith}
 use lib.Dec.{eqb, ltb}
 use lib.ListN.{length, getD, take, drop}
-use Rattle.std.proofs.shelf.Lists.{drop-more, take-more, length-take-le, getD-append-left, getD-push, length-push}
+use Rattle.std.proofs.shelf.Lists.{drop-more, take-more, length-take-le, getD-take, getD-append-left, getD-push, length-push}
 use Rattle.std.proofs.shelf.Tests.{ne-eqb, lt-ltb, and-from, cases-lt, cases-bool}
 use Rattle.std.proofs.shelf.Ways.{tells}
 use Rattle.std.specs.Results.{Cases}
@@ -17,7 +17,7 @@ use Rattle.std.specs.declared.result.Result.{Result}
 use Rattle.std.specs.declared.result.Result.the-variants.{Ok, Err}
 use Rattle.lists.specs.Lists.{every}
 use Rattle.modal.specs.Kripke.{World, Model, world, bare}
-use Rattle.atoms.specs.Sets.{has}
+use Rattle.atoms.specs.Sets.{has, onlyLetters}
 use Rattle.sheet.specs.Sheets.{noRow, successorsOf, worldsFrom, worldsOf, Earlier, isBlank, rowStands, someRows, shownFrom, shownRows, ShownTree}
 use Rattle.sheet.specs.declared.faults.SheetFault.{SheetFault}
 use Rattle.sheet.specs.declared.faults.SheetFault.the-variants.{Unlawful}
@@ -68,6 +68,15 @@ skip t w (suc n) h a b =
 -- so the successors of a world are found after it
 pub later-successors : (t : List SheetRow) (w : ℕ) → Earlier t → w < length t → world (worldsOf t) w .successors ≡ successorsOf w (w + 1) (drop (w + 1) t)
 later-successors t w h l = ap (λ (x : World). x .successors) (world-at t w l) ∙ skip t w w h (omega arith) l
+
+-- a row after the root, with letters only and an earlier parent, stands if its level is the parent's plus 1, at most 7
+pub stands-later : (s : List SheetRow) (i : ℕ) → i < length s → (i ≡ 0 → ⊥) → onlyLetters (getD s i noRow .letters) ≡ true → getD s i noRow .parent < i
+    → rowStands (take i s) (getD s i noRow) ≡ (ltb (getD s (getD s i noRow .parent) noRow .level) 7 && eqb (getD s i noRow .level) (getD s (getD s i noRow .parent) noRow .level + 1))
+stands-later s i l pos only before =
+    let up = getD s i noRow .parent in
+    let long : length (take i s) ≡ i = length-take-le i s (omega arith) in
+    let same : getD (take i s) up noRow ≡ getD s up noRow = getD-take i s up noRow before in
+    rw (long, same) (grind (arith, tells))
 
 -- one row more of a sheet
 pub shown-more : (s : List SheetRow) (i : ℕ) → i < length s

@@ -63,7 +63,13 @@ fn row_true(row: Row, letters: AtomSet, known: RowSet, over: Over) -> bool
 }
 
 // The first `count` rows that are true at the world.
-pub(crate) fn rows_true(tree: &[SheetRow], rows: &[Row], count: usize, world: usize, over: Over) -> RowSet
+pub(crate) fn rows_true(
+    tree: &[SheetRow],
+    rows: &[Row],
+    count: usize,
+    world: usize,
+    over: Over,
+) -> RowSet
     requires within { ⌜ count ≤ length (now rows) ⌝ }
     requires lawful { ⌜ lawful (now rows) ≡ true ⌝ }
     requires world { ⌜ world < length (now tree) ⌝ }

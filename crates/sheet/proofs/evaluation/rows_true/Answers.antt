@@ -30,7 +30,7 @@ loop-j-again c =
     let letters = getD tree w noRow .letters in
     let same : (a : ℕ) → has letters a ≡ _ = λ a. sym (ap (λ (x : World). x .letters a) (world-at tree w (c .pre .world))) in
     let told : c .row-true .result ≡ trueAt rows j (worldsOf tree) w =
-        c .row-true .ensures ∙ row-true rows (worldsOf tree) w (c .pre .lawful) letters known (c .args .over) same j (omega arith) (c .loop-j .inv .0) (c .pre .over j (c .loop-j-test .taken)) in
+    c .row-true .ensures ∙ row-true rows (worldsOf tree) w (c .pre .lawful) letters known (c .args .over) same j (omega arith) (c .loop-j .inv .0) (c .pre .over j (c .loop-j-test .taken)) in
     let Goal : AtomSet → Type 0 = λ s. TrueRows rows (j + 1) (worldsOf tree) w s × ((k : ℕ) → j + 1 ≤ k → has s k ≡ false) in
     elim (c .if-row-true .came) [
       | then-row-true x ↦ subst Goal (sym (x .known-is)) (known-in rows (worldsOf tree) w j known small (c .loop-j .inv .0) (c .loop-j .inv .1) (sym told ∙ x .if-row-true .taken) (x .insert-known .result) (x .insert-known .ensures))
