@@ -1,6 +1,6 @@
 -- Tests and counts over the numbers below a bound.
 use Prim.Native.Nat.{ℕ, zero, suc, _+_, _/_, _%_, _^_, _<_, _≤_}
-use mathlib.Core.Path.{_≡_, refl, sym, _∙_, ap}
+use mathlib.Core.Path.{_≡_, refl, sym, _∙_, ap, ap₂}
 use mathlib.Core.Bool.{Bool, true, false, cond, not, _&&_, _||_}
 use native.Mathlib.Nat.{pow-succ'}
 use native.Mathlib.Omega.{arith}
@@ -46,6 +46,25 @@ some-here (suc n) p i l e = at (eqb i n) refl (λ h. some-here n p i h e)
 -- where the test holds of none, it holds of no number below the bound
 pub none-at : (n : ℕ) (p : ℕ → Bool) → someBelow n p ≡ false → (i : ℕ) → i < n → p i ≡ false
 none-at n p e i l = not-true (p i) (λ h. true-false (some-here n p i l h) e)
+
+pub some-same : (n : ℕ) (p q : ℕ → Bool) → ((i : ℕ) → i < n → p i ≡ q i) → someBelow n p ≡ someBelow n q
+unfolding someBelow
+some-same zero p q h = refl
+some-same (suc n) p q h = ap₂ (λ (a b : Bool). a || b) (h n (omega arith)) (some-same n p q (λ i l. h i (omega arith)))
+
+-- what a test of emptiness answers for a set with the members t
+pub empty-none : (n : ℕ) (t : ℕ → Bool) (r : Bool) → ((i : ℕ) → n ≤ i → t i ≡ false) → (r ≡ true → (i : ℕ) → t i ≡ false) → (((i : ℕ) → t i ≡ false) → r ≡ true)
+    → r ≡ not (someBelow n t)
+empty-none n t true high all some = sym (ap not (some-none n t (λ i _. all refl i)))
+empty-none n t false high all some = at (someBelow n t) refl
+  where
+    low : (b : Bool) (i : ℕ) → (n ≤ i → b ≡ false) → (i < n → b ≡ false) → b ≡ false
+    low true i h f = grind (arith, tells, h, f)
+    low false i h f = refl
+
+    at : (b : Bool) → someBelow n t ≡ b → false ≡ not (someBelow n t)
+    at true q = sym (ap not q)
+    at false q = absurd (true-false (some (λ i. low (t i) i (high i) (none-at n t q i))) refl)
 
 -- what one test adds to a count
 abbrev one : Bool → ℕ

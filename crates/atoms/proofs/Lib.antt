@@ -1,2 +1,4 @@
 pub mod Members
 pub mod Below
+pub mod Making
+pub mod Obeying

@@ -1,2 +1,4 @@
 pub mod Bits
 pub mod Sets
+pub mod Clauses
+pub mod Assuming

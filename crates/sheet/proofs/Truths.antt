@@ -11,6 +11,7 @@ use Rattle.std.proofs.shelf.Lists.{drop-all}
 use Rattle.std.proofs.shelf.Tests.{and-parts, ltb-true, lt-ltb, eq-eqb, ne-eqb, cases-lt}
 use Rattle.std.proofs.shelf.Ways.{tells}
 use Rattle.lists.specs.Lists.{every, some}
+use Rattle.lists.proofs.Truth.{and-true, or-false, and-assoc, or-assoc}
 use Rattle.modal.specs.Kripke.{Formula, World, world, meets}
 use Rattle.modal.specs.Rows.{forms, formAt, formOf, childEarlier, lawful}
 use Rattle.modal.specs.declared.row.Row.{Row}
@@ -134,14 +135,6 @@ module _ (rows : List Row) (count : ℕ) (ws : List World) (w : ℕ) where
         everywhere = λ k l. sym (s .every-so-far k l ∙ ap (λ (xs : List ℕ). has all k && every (trueAt rows k ws) xs) e ∙ and-true (has all k));
         somewhere = λ k l. sym (s .some-so-far k l ∙ ap (λ (xs : List ℕ). has any k || some (trueAt rows k ws) xs) e ∙ or-false (has any k));
       }
-    where
-      and-true : (b : Bool) → (b && true) ≡ b
-      and-true true = refl
-      and-true false = refl
-
-      or-false : (b : Bool) → (b || false) ≡ b
-      or-false true = refl
-      or-false false = refl
 
   module _ (t : List SheetRow) (j : ℕ) (pos : 0 < j) (l : j < length t) (all any : AtomSet) (s : Scanned rows count ws w (successorsOf w j (drop j t)) all any) where
     abbrev rest : List ℕ
@@ -159,18 +152,10 @@ module _ (rows : List Row) (count : ℕ) (ws : List World) (w : ℕ) where
         record {
           every-so-far = λ k m.
               s .every-so-far k m ∙ ap (λ (xs : List ℕ). has all k && every (trueAt rows k ws) xs) (hit e)
-              ∙ and-swap (has all k) (trueAt rows k ws j) (every (trueAt rows k ws) rest) ∙ ap (λ (b : Bool). (has all k && b) && every (trueAt rows k ws) rest) (sym (h k m))
+              ∙ and-assoc (has all k) (trueAt rows k ws j) (every (trueAt rows k ws) rest) ∙ ap (λ (b : Bool). (has all k && b) && every (trueAt rows k ws) rest) (sym (h k m))
               ∙ ap (λ (b : Bool). b && every (trueAt rows k ws) rest) (sym (f k));
           some-so-far = λ k m.
               s .some-so-far k m ∙ ap (λ (xs : List ℕ). has any k || some (trueAt rows k ws) xs) (hit e)
-              ∙ or-swap (has any k) (trueAt rows k ws j) (some (trueAt rows k ws) rest) ∙ ap (λ (b : Bool). (has any k || b) || some (trueAt rows k ws) rest) (sym (h k m))
+              ∙ or-assoc (has any k) (trueAt rows k ws j) (some (trueAt rows k ws) rest) ∙ ap (λ (b : Bool). (has any k || b) || some (trueAt rows k ws) rest) (sym (h k m))
               ∙ ap (λ (b : Bool). b || some (trueAt rows k ws) rest) (sym (g k));
         }
-      where
-        and-swap : (a b c : Bool) → (a && (b && c)) ≡ ((a && b) && c)
-        and-swap true b c = refl
-        and-swap false b c = refl
-
-        or-swap : (a b c : Bool) → (a || (b || c)) ≡ ((a || b) || c)
-        or-swap true b c = refl
-        or-swap false b c = refl

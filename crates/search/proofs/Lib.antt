@@ -1,0 +1,2 @@
+pub mod Clausewise
+pub mod Soundness
