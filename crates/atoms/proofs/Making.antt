@@ -1,6 +1,6 @@
 -- Clauses and lists of entries under valuations.
 use Prim.Native.Nat.{ℕ, _<_}
-use mathlib.Core.Path.{_≡_, refl, sym, _∙_, ap}
+use mathlib.Core.Path.{_≡_, refl, _∙_, ap}
 use mathlib.Core.Bool.{Bool, true, false, not, _&&_, _||_}
 use mathlib.Core.List.{List, [], _∷_}
 use Rattle.atoms.specs.Clauses.{Valuation, makes, makesAt, makesAll, names, hasAtom}

@@ -1,10 +1,10 @@
 -- Membership in a set of atoms, by the digits of the number that writes it.
-use Prim.Native.Nat.{ℕ, zero, suc, _+_, _-_, _*_, _/_, _%_, _^_, _<_, _≤_, max, min}
+use Prim.Native.Nat.{ℕ, zero, suc, _-_, _*_, _/_, _%_, _^_, _<_, _≤_}
 use mathlib.Core.Path.{_≡_, refl, sym, _∙_, ap}
-use mathlib.Core.Bool.{Bool, true, false, cond, not, _&&_, _||_}
+use mathlib.Core.Bool.{Bool, true, false, not, _&&_, _||_}
 use native.Mathlib.Nat.{div-one, div-div-eq-div-mul, pow-succ', zero-div}
 use native.Mathlib.Omega.{arith}
-use lib.Bits.{bitAnd, bitOr, bitXor, and-shr, or-shr, and-step, or-step, and-mask}
+use lib.Bits.{bitAnd, bitOr, and-shr, or-shr, and-step, or-step, and-mask}
 use lib.Count.{trailingZeros, under}
 use lib.Dec.{eqb, ltb, lit<}
 use lib.Pow.{pow-pos}

@@ -1,11 +1,9 @@
 -- Valuations that obey assumptions, by the atoms that must be in and those that must be out.
-use Prim.Native.Nat.{ℕ, _<_, _≤_}
+use Prim.Native.Nat.{ℕ}
 use mathlib.Core.Path.{_≡_, refl, sym, _∙_, ap}
 use mathlib.Core.Bool.{Bool, true, false, cond, not, _&&_, _||_}
-use native.Mathlib.Omega.{arith}
 use lib.Dec.{eqb, ltb}
 use borrow.Author.Tests.{eqb-true}
-use Rattle.std.proofs.shelf.Ways.{tells}
 use Rattle.atoms.specs.Assuming.{Obeys, clashing, Joined}
 use Rattle.atoms.specs.Clauses.{Valuation, obeysOne}
 use Rattle.atoms.specs.Sets.{has}

@@ -5,7 +5,7 @@ use page::check::Checked;
 use page::check::check;
 use page::drawing::Drawing;
 use page::drawing::DrawingDisplay;
-use page::faults::CaseFaultDisplay;
+use page::faults::PageFaultDisplay;
 use sheet::tree::shown;
 use std::error::AnyError;
 use std::io::Read;
@@ -22,10 +22,11 @@ fn print(rt: &LibcRuntime, checked: &Checked) -> Result<(), AnyError> {
         println!(rt, "  row {i}: {row}")?;
     }
     println!(rt, "drawing:")?;
-    if let Ok(tree) = shown(&checked.sheet) {
-        let drawing = Drawing(tree);
-        print!(rt, "{drawing}")?;
-    }
+    let Ok(tree) = shown(&checked.sheet) else {
+        return Err("a sheet that was checked shows no tree".into());
+    };
+    let drawing = Drawing(tree);
+    print!(rt, "{drawing}")?;
     if checked.met {
         println!(rt, "verdict: world 0 meets the rule")?;
     } else {

@@ -1,6 +1,6 @@
 -- The lists that are built row by row: the formulas and the depths of rows.
 use mathlib.Core.Path.{_≡_, refl, sym, ap, ap₂, _∙_}
-use mathlib.Core.Bool.{Bool, true, false, _&&_}
+use mathlib.Core.Bool.{Bool, true, _&&_}
 use mathlib.Core.List.{List, [], _∷_, _++_}
 use Prim.Native.Nat.{ℕ, zero, suc, _+_, _<_, _≤_}
 use native.Mathlib.Nat.{add-zero}
@@ -13,10 +13,6 @@ use Rattle.modal.specs.Kripke.{Formula, falsum, neg, conj, disj, box, dia}
 use Rattle.modal.specs.Rows.{built, formOf, forms, depthOf, rowDepths, childEarlier, letterFits, rowFits, allFit, lawful}
 use Rattle.modal.specs.declared.row.Row.{Row}
 use Rattle.modal.specs.declared.row.Row.the-variants.{False, True, Letter, Not, And, Or, Box, Diamond}
-
-pub length-built : {X : Type 0} (f : List X → Row → X) (xs : List X) (rs : List Row) → length (built f xs rs) ≡ length xs + length rs
-length-built f xs [] = sym (add-zero (length xs))
-length-built f xs (r ∷ rs) = omega (arith, length-built f (xs ++ f xs r ∷ []) rs, length-push xs (f xs r))
 
 -- what stands there so far stays
 pub getD-built : {X : Type 0} (f : List X → Row → X) (xs : List X) (rs : List Row) (i : ℕ) (d : X) → i < length xs → getD (built f xs rs) i d ≡ getD xs i d

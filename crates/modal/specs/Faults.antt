@@ -1,4 +1,4 @@
--- The refusals of reading and writing a rule: the number of each, its detail, and where its row begins.
+-- The refusals of reading and writing a rule: the number of each with its detail, and where its row begins.
 use Prim.Native.Nat.{ℕ}
 use Rattle.modal.specs.declared.faults.RowStart.{RowStart}
 use Rattle.modal.specs.declared.faults.ReadFault.{ReadFault}
@@ -6,23 +6,25 @@ use Rattle.modal.specs.declared.faults.ReadFault.the-variants.{NoBytes, Unknow
 use Rattle.modal.specs.declared.faults.WriteFault.{WriteFault}
 use Rattle.modal.specs.declared.faults.WriteFault.the-variants.{TooShort}
 
-abbrev pub readNumber : ReadFault → ℕ
-readNumber NoBytes = 1
-readNumber (UnknownKind at) = 2
-readNumber (CutOff at) = 3
-readNumber (TooManyRows at) = 4
-readNumber (ChildNotEarlier at) = 5
-readNumber (LetterTooHigh at) = 6
-readNumber (TooDeep at) = 7
+-- what a caller is told of a refusal
+pub record Refusal : Type 0 where
+  pub number : ℕ
+  pub detail : ℕ
 
-abbrev pub readDetail : ReadFault → ℕ
-readDetail NoBytes = 0
-readDetail (UnknownKind at) = at .row
-readDetail (CutOff at) = at .row
-readDetail (TooManyRows at) = 64
-readDetail (ChildNotEarlier at) = at .row
-readDetail (LetterTooHigh at) = at .row
-readDetail (TooDeep at) = at .row
+abbrev pub refusal : ℕ → ℕ → Refusal
+refusal n d = record { number = n; detail = d }
+
+abbrev pub readRefusal : ReadFault → Refusal
+readRefusal NoBytes = refusal 1 0
+readRefusal (UnknownKind at) = refusal 2 (at .row)
+readRefusal (CutOff at) = refusal 3 (at .row)
+readRefusal (TooManyRows at) = refusal 4 64
+readRefusal (ChildNotEarlier at) = refusal 5 (at .row)
+readRefusal (LetterTooHigh at) = refusal 6 (at .row)
+readRefusal (TooDeep at) = refusal 7 (at .row)
+
+abbrev pub writeRefusal : WriteFault → Refusal
+writeRefusal (TooShort needed) = refusal 10 needed
 
 -- the row at fault and the byte where it begins
 abbrev pub readStart : ReadFault → RowStart
@@ -33,9 +35,3 @@ readStart (TooManyRows at) = at
 readStart (ChildNotEarlier at) = at
 readStart (LetterTooHigh at) = at
 readStart (TooDeep at) = at
-
-abbrev pub writeNumber : WriteFault → ℕ
-writeNumber (TooShort needed) = 10
-
-abbrev pub writeDetail : WriteFault → ℕ
-writeDetail (TooShort needed) = needed

@@ -1,5 +1,5 @@
 -- The bytes of a rule: which rows a string of bytes says, or which fault is found first, and the bytes that rows are written as.
-use mathlib.Core.Bool.{Bool, cond, _||_}
+use mathlib.Core.Bool.{cond, _||_}
 use mathlib.Core.List.{List, [], _∷_, _++_}
 use Prim.Native.Nat.{ℕ, zero, suc, _+_}
 use lib.Dec.{ltb, leb, eqb}

@@ -13,20 +13,22 @@ use Rattle.modal.specs.declared.faults.ReadFault.{ReadFault}
 use Rattle.std.specs.declared.result.Result.{Result}
 use Rattle.std.specs.declared.result.Result.the-variants.{Ok, Err}
 
--- a row that is pushed stands last; a refused one has the fault that its place gives
-pub record Grew (before : RowList) (row : Row) (start : RowStart) (after : RowList) : Type 0 where
+-- a row that is pushed fits and stands last
+pub record Appended (before : RowList) (row : Row) (start : RowStart) (after : RowList) : Type 0 where
   pub fits : placed (rowDepths (listed before)) start row ≡ Ok (depthOf (rowDepths (listed before)) row)
   pub rows : listed after ≡ listed before ++ row ∷ []
   pub longer : after .len ≡ before .len + 1
 
+-- a refused row has the fault that its place gives
 abbrev pub Pushed : RowList → Row → RowStart → RowList → Result (Unit {0}) ReadFault → Type 0
-Pushed before row start after (Ok _) = Grew before row start after
+Pushed before row start after (Ok _) = Appended before row start after
 Pushed before row start after (Err fault) = placed (rowDepths (listed before)) start row ≡ Err fault
 
 -- what the bytes from `at` on say behind the rows of the list
 abbrev pub restOf : List ℕ → RowList → ℕ → Result (List Row) ReadFault
 restOf bytes list at = parse (64 - list .len) (listed list) at (drop at bytes)
 
+-- a row that is read: what is left says behind the longer list what was said before
 pub record RowDone (bytes : List ℕ) (at : ℕ) (before after : RowList) (next : ℕ) : Type 0 where
   pub further : at < next
   pub within : next ≤ length bytes

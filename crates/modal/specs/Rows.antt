@@ -1,5 +1,5 @@
 -- The rows of a rule: the formula and the depth of each, what the rule says, and which lists of rows are a rule.
-use mathlib.Core.Bool.{Bool, true, false, _&&_}
+use mathlib.Core.Bool.{Bool, true, _&&_}
 use mathlib.Core.List.{List, [], _∷_, _++_}
 use Prim.Native.Nat.{ℕ, max, _+_, _-_}
 use lib.Dec.{ltb, leb}

@@ -1,6 +1,6 @@
 // What was wrong with the bytes of a rule, and where; and with the buffer that a rule was to be written to.
 ghost use mathlib.Core.Path.{_≡_};
-ghost use Rattle.modal.specs.Faults.{readNumber, readDetail, readStart, writeNumber, writeDetail};
+ghost use Rattle.modal.specs.Faults.{readRefusal, readStart, writeRefusal};
 use std::fmt;
 
 // A row of the bytes, and the byte where it begins.
@@ -24,7 +24,7 @@ pub enum ReadFault {
 impl ReadFault {
     // The number of the refusal.
     pub fn number(self) -> u8
-        ensures { λ r. ⌜ r ≡ readNumber self ⌝ }
+        ensures { λ r. ⌜ r ≡ readRefusal self .number ⌝ }
     {
         match self {
             ReadFault::NoBytes => 1,
@@ -39,7 +39,7 @@ impl ReadFault {
 
     // The detail of the refusal.
     pub fn detail(self) -> u64
-        ensures { λ r. ⌜ r ≡ readDetail self ⌝ }
+        ensures { λ r. ⌜ r ≡ readRefusal self .detail ⌝ }
     {
         match self {
             ReadFault::TooManyRows(_) => 64,
@@ -92,7 +92,7 @@ pub enum WriteFault {
 impl WriteFault {
     // The number of the refusal.
     pub fn number(self) -> u8
-        ensures { λ r. ⌜ r ≡ writeNumber self ⌝ }
+        ensures { λ r. ⌜ r ≡ writeRefusal self .number ⌝ }
     {
         match self {
             WriteFault::TooShort(_) => 10,
@@ -101,7 +101,7 @@ impl WriteFault {
 
     // The detail of the refusal.
     pub fn detail(self) -> u64
-        ensures { λ r. ⌜ r ≡ writeDetail self ⌝ }
+        ensures { λ r. ⌜ r ≡ writeRefusal self .detail ⌝ }
     {
         match self {
             WriteFault::TooShort(needed) => needed as u64,

@@ -1,16 +1,12 @@
 -- What an oracle may answer that looked at the level's entries alone.
 use Prim.Native.Nat.{ℕ}
-use mathlib.Core.Path.{_≡_, sym, subst}
-use mathlib.Core.Bool.{true}
+use mathlib.Core.Path.{_≡_, subst}
 use mathlib.Core.List.{List}
-use Rattle.atoms.specs.Assuming.{Obeys}
-use Rattle.atoms.specs.Clauses.{Valuation, makesAll}
 use Rattle.atoms.specs.Sets.{has}
 use Rattle.atoms.specs.declared.assumptions.Assumptions.{Assumptions}
 use Rattle.atoms.specs.declared.clauses.Entry.{Entry}
 use Rattle.atoms.specs.declared.sets.AtomSet.{AtomSet}
 use Rattle.oracle.specs.Oracles.{Lists, Solves, Satisfies, Shut, Answers}
-use Rattle.oracle.specs.declared.answers.Solved.{Solved}
 use Rattle.oracle.specs.declared.answers.Solved.the-variants.{Valuation as valuation, Core}
 
 pub solves-core : (before after : Lists) (level : ℕ) (w : Assumptions) (es : List Entry) → ((k : ℕ) → after k ≡ before k) → es ≡ before level → Shut w es → Solves before after level w (Core w)

@@ -15,12 +15,12 @@ use Rattle.std.specs.declared.result.Result.the-variants.{Ok, Err}
 use Rattle.atoms.specs.Sets.{has}
 use Rattle.atoms.specs.declared.sets.AtomSet.{AtomSet}
 use Rattle.atoms.proofs.Members.{has-or, has-one, has-same}
-use Rattle.page.specs.Pages.{Shown, readByte, readFrom, andThen, endNumber, endLine, Moves, PageRead}
+use Rattle.page.specs.Pages.{PageState, readByte, readFrom, andThen, endNumber, endLine, Moves, PageRead}
 use Rattle.page.specs.declared.faults.TextFault.{TextFault}
-use Rattle.page.specs.declared.faults.CaseFault.{CaseFault}
-use Rattle.page.specs.declared.faults.CaseFault.the-variants as fault
+use Rattle.page.specs.declared.faults.PageFault.{PageFault}
+use Rattle.page.specs.declared.faults.PageFault.the-variants as fault
 
-pub read-more : (p : Shown) (text : List ℕ) (i : ℕ) → i < length text → readFrom p i (drop i text) ≡ andThen (readByte p (getD text i 0) i) (λ q. readFrom q (i + 1) (drop (i + 1) text))
+pub read-more : (p : PageState) (text : List ℕ) (i : ℕ) → i < length text → readFrom p i (drop i text) ≡ andThen (readByte p (getD text i 0) i) (λ q. readFrom q (i + 1) (drop (i + 1) text))
 read-more p text i l = ap (readFrom p i) (drop-more text i 0 l)
 
 -- a set with one member more is written with one bit more
@@ -32,22 +32,22 @@ inserted s r a small fits fit e =
     only : (i : ℕ) → (eqb a i && ltb i 64) ≡ eqb a i
     only i = grind (arith, tells)
 
-pub all-read : (p : Shown) (text : List ℕ) (i : ℕ) → i ≡ length text → readFrom p i (drop i text) ≡ andThen (endNumber p (length text)) (λ q. endLine q (length text))
+pub all-read : (p : PageState) (text : List ℕ) (i : ℕ) → i ≡ length text → readFrom p i (drop i text) ≡ andThen (endNumber p (length text)) (λ q. endLine q (length text))
 all-read p text i e = rw e (ap (readFrom p (length text)) (drop-all (length text) text (omega arith)))
 
 -- a step that fails ends the reading, and one that does not goes on
-pub failed-last : (whole want : Result Shown TextFault) → whole ≡ want → (after : Shown) (e : CaseFault) → Moves want after (Err e) → PageRead whole (Err e)
+pub failed-last : (whole want : Result PageState TextFault) → whole ≡ want → (after : PageState) (e : PageFault) → Moves want after (Err e) → PageRead whole (Err e)
 failed-last whole want is after (fault.Text e) h = is ∙ h
 failed-last whole want is after (fault.Rule e) h = h
 failed-last whole want is after (fault.Sheet e) h = h
 failed-last whole want is after fault.Memory h = tt
 
-module _ (whole want : Result Shown TextFault) (f : Shown → Result Shown TextFault) where
-  pub failed : whole ≡ andThen want f → (after : Shown) (e : CaseFault) → Moves want after (Err e) → PageRead whole (Err e)
-  failed is after (fault.Text e) h = is ∙ ap (λ (w : Result Shown TextFault). andThen w f) h
+module _ (whole want : Result PageState TextFault) (f : PageState → Result PageState TextFault) where
+  pub failed : whole ≡ andThen want f → (after : PageState) (e : PageFault) → Moves want after (Err e) → PageRead whole (Err e)
+  failed is after (fault.Text e) h = is ∙ ap (λ (w : Result PageState TextFault). andThen w f) h
   failed is after (fault.Rule e) h = h
   failed is after (fault.Sheet e) h = h
   failed is after fault.Memory h = tt
 
-pub goes-on : (want : Result Shown TextFault) (f : Shown → Result Shown TextFault) (p : Shown) → want ≡ Ok p → andThen want f ≡ f p
-goes-on want f p h = ap (λ (w : Result Shown TextFault). andThen w f) h
+pub goes-on : (want : Result PageState TextFault) (f : PageState → Result PageState TextFault) (p : PageState) → want ≡ Ok p → andThen want f ≡ f p
+goes-on want f p h = ap (λ (w : Result PageState TextFault). andThen w f) h

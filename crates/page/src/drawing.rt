@@ -1,4 +1,5 @@
 // A tree in words: a line for each world, under its parent, with its row's number and its letters.
+use atoms::sets::ATOMS;
 use atoms::sets::AtomSet;
 use sheet::row::SheetRow;
 use std::fmt;
@@ -21,9 +22,7 @@ fn world<W: fmt::Write>(tree: &[SheetRow], row: usize, f: &mut fmt::Formatter<W>
     let Some(here) = tree.get(row) else {
         return Ok(());
     };
-    for _ in 0..here.level {
-        write!(f, "  ")?;
-    }
+    indent(here.level, f)?;
     write!(f, "world {row}:")?;
     letters(here.letters, f)?;
     for next in row + 1..tree.len() {
@@ -34,11 +33,18 @@ fn world<W: fmt::Write>(tree: &[SheetRow], row: usize, f: &mut fmt::Formatter<W>
     Ok(())
 }
 
+fn indent<W: fmt::Write>(level: u8, f: &mut fmt::Formatter<W>) -> fmt::Result {
+    for _ in 0..level {
+        write!(f, "  ")?;
+    }
+    Ok(())
+}
+
 fn letters<W: fmt::Write>(set: AtomSet, f: &mut fmt::Formatter<W>) -> fmt::Result {
     if set.is_empty() {
         return writeln!(f, " no letters");
     }
-    for a in 0..64u8 {
+    for a in 0..ATOMS {
         if set.member(a) {
             write!(f, " {a}")?;
         }

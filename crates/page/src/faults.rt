@@ -1,13 +1,12 @@
 // What was wrong with a page, and in which layer: the text, the rule that it has, or the sheet.
 ghost use mathlib.Core.Path.{_≡_};
-ghost use Rattle.page.specs.declared.faults.CaseFault.the-variants as fault;
+ghost use Rattle.page.specs.declared.faults.PageFault.the-variants as fault;
 use modal::faults::ReadFault;
 use modal::faults::ReadFaultDebug;
 use modal::faults::ReadFaultDisplay;
 use sheet::faults::SheetFault;
 use sheet::faults::SheetFaultDebug;
 use sheet::faults::SheetFaultDisplay;
-use std::alloc::AllocError;
 use std::alloc::Refused;
 use std::fmt;
 
@@ -33,7 +32,7 @@ pub impl fmt::Display for TextFault as TextFaultDisplay {
 }
 
 #[derive(Clone, Copy, Debug)]
-pub enum CaseFault {
+pub enum PageFault {
     Text(TextFault),
     Rule(ReadFault),
     Sheet(SheetFault),
@@ -41,61 +40,53 @@ pub enum CaseFault {
     Memory,
 }
 
-pub impl fmt::Display for CaseFault as CaseFaultDisplay {
+pub impl fmt::Display for PageFault as PageFaultDisplay {
     fn fmt<W: fmt::Write>(&self, f: &mut fmt::Formatter<W>) -> fmt::Result {
         match *self {
-            CaseFault::Text(fault) => write!(f, "the text, {fault}"),
-            CaseFault::Rule(fault) => {
+            PageFault::Text(fault) => write!(f, "the text, {fault}"),
+            PageFault::Rule(fault) => {
                 let number = fault.number();
                 let detail = fault.detail();
                 write!(f, "{number}, detail {detail}: the rule, {fault}")
             }
-            CaseFault::Sheet(fault) => {
+            PageFault::Sheet(fault) => {
                 let number = fault.number();
                 let detail = fault.detail();
                 write!(f, "{number}, detail {detail}: the sheet, {fault}")
             }
-            CaseFault::Memory => write!(f, "there is no memory for the page"),
+            PageFault::Memory => write!(f, "there is no memory for the page"),
         }
     }
 }
 
-pub impl From<TextFault> for CaseFault as CaseFromText {
+pub impl From<TextFault> for PageFault as PageFromText {
     ghost converts = { λ f r. r ≡ fault.Text f };
 
-    fn from(fault: TextFault) -> CaseFault {
-        CaseFault::Text(fault)
+    fn from(fault: TextFault) -> PageFault {
+        PageFault::Text(fault)
     }
 }
 
-pub impl From<ReadFault> for CaseFault as CaseFromRule {
+pub impl From<ReadFault> for PageFault as PageFromRule {
     ghost converts = { λ f r. r ≡ fault.Rule f };
 
-    fn from(fault: ReadFault) -> CaseFault {
-        CaseFault::Rule(fault)
+    fn from(fault: ReadFault) -> PageFault {
+        PageFault::Rule(fault)
     }
 }
 
-pub impl From<SheetFault> for CaseFault as CaseFromSheet {
+pub impl From<SheetFault> for PageFault as PageFromSheet {
     ghost converts = { λ f r. r ≡ fault.Sheet f };
 
-    fn from(fault: SheetFault) -> CaseFault {
-        CaseFault::Sheet(fault)
+    fn from(fault: SheetFault) -> PageFault {
+        PageFault::Sheet(fault)
     }
 }
 
-pub impl From<AllocError> for CaseFault as CaseFromAlloc {
+pub impl<T: Drop> From<Refused<T>> for PageFault as PageFromRefused {
     ghost converts = { λ _ r. r ≡ fault.Memory };
 
-    fn from(_e: AllocError) -> CaseFault {
-        CaseFault::Memory
-    }
-}
-
-pub impl<T: Drop> From<Refused<T>> for CaseFault as CaseFromRefused {
-    ghost converts = { λ _ r. r ≡ fault.Memory };
-
-    fn from(_e: Refused<T>) -> CaseFault {
-        CaseFault::Memory
+    fn from(_e: Refused<T>) -> PageFault {
+        PageFault::Memory
     }
 }

@@ -6,5 +6,5 @@
 pub mod check;
 pub mod drawing;
 pub mod faults;
-pub mod page;
-pub mod reader;
+mod page;
+mod reader;

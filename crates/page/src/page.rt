@@ -2,8 +2,8 @@
 use sheet::row::SheetRow;
 
 // What the next number of the line is.
-#[derive(Clone, Copy, PartialEq, Eq)]
-pub enum Expect {
+#[derive(Clone, Copy)]
+pub(crate) enum Expect {
     Byte,
     Parent,
     Level,
@@ -11,7 +11,7 @@ pub enum Expect {
 }
 
 #[derive(Drop)]
-pub struct Page {
+pub(crate) struct Page {
     pub(crate) expect: Expect,
     // Whether the rest of the line is a comment.
     pub(crate) comment: bool,

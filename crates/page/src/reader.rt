@@ -1,14 +1,17 @@
 // Reading a page, byte by byte.
+ghost use mathlib.Core.Bool.{cond};
 ghost use mathlib.Core.Path.{_≡_};
 ghost use Prim.Native.Nat.{_^_, _<_};
 ghost use lib.Bits.{bitOr};
-ghost use Rattle.page.specs.Pages.{shownPage, start, takeNumber, endNumber, endLine, addDigit, readByte, readPage, baseOf, digitIn, Moves, PageRead};
-use crate::faults::CaseFault;
-use crate::faults::CaseFromRefused;
-use crate::faults::CaseFromText;
+ghost use lib.Dec.{ltb};
+ghost use Rattle.page.specs.declared.faults.TextFault.the-variants.{TooLarge};
+ghost use Rattle.std.specs.declared.result.Result.the-variants.{Ok, Err};
+ghost use Rattle.page.specs.Pages.{stateOf, start, takeNumber, endNumber, endLine, addDigit, readByte, readPage, baseOf, digitIn, Moves, PageRead};
+use crate::faults::PageFault;
+use crate::faults::PageFromRefused;
+use crate::faults::PageFromText;
 use crate::faults::TextFault;
 use crate::page::Expect;
-use crate::page::ExpectPartialEq;
 use crate::page::Page;
 use atoms::sets::ATOMS;
 use atoms::sets::AtomSet;
@@ -33,6 +36,16 @@ fn digit(byte: u8, base: u64) -> Option<u64>
     }
 }
 
+// The number as a byte.
+fn byte_of(number: u64, at: usize) -> Result<u8, TextFault>
+    ensures { λ r. ⌜ r ≡ cond (ltb number 256) (Ok number) (Err (TooLarge at)) ⌝ }
+{
+    match u8::try_from(number) {
+        Ok(byte) => Ok(byte),
+        Err(_) => Err(TextFault::TooLarge(at)),
+    }
+}
+
 // The set with one letter more.
 fn with_letter(letters: AtomSet, a: u8) -> AtomSet
     requires { ⌜ a < 64 ⌝ }
@@ -43,7 +56,7 @@ fn with_letter(letters: AtomSet, a: u8) -> AtomSet
 
 impl Page {
     fn new(heap: Global) -> Page
-        ensures { λ r. ⌜ shownPage r ≡ start ⌝ }
+        ensures { λ r. ⌜ stateOf r ≡ start ⌝ }
     {
         Page {
             expect: Expect::Byte,
@@ -57,7 +70,7 @@ impl Page {
 
     // The rule's bytes are in base sixteen, a row's numbers in base ten.
     fn base(&self) -> u64
-        ensures { λ r. ⌜ r ≡ baseOf (shownPage (now (self .entry))) ⌝ }
+        ensures { λ r. ⌜ r ≡ baseOf (stateOf (now (self .entry))) ⌝ }
     {
         match self.expect {
             Expect::Byte => 16,
@@ -66,15 +79,13 @@ impl Page {
     }
 
     // Puts a number where the line wants it.
-    fn take_number(&mut self, number: u64, at: usize) -> Result<(), CaseFault>
-        ensures { λ r. ⌜ Moves (takeNumber (shownPage (now (self .entry))) number at) (shownPage (now (self .exit))) r ⌝ }
+    fn take_number(&mut self, number: u64, at: usize) -> Result<(), PageFault>
+        ensures { λ r. ⌜ Moves (takeNumber (stateOf (now (self .entry))) number at) (stateOf (now (self .exit))) r ⌝ }
     {
         self.open = None;
         match self.expect {
             Expect::Byte => {
-                let Ok(byte) = u8::try_from(number) else {
-                    return Err(CaseFault::Text(TextFault::TooLarge(at)));
-                };
+                let byte = byte_of(number, at)?;
                 self.bytes.push(byte)?;
             }
             Expect::Parent => {
@@ -82,15 +93,12 @@ impl Page {
                 self.expect = Expect::Level;
             }
             Expect::Level => {
-                let Ok(level) = u8::try_from(number) else {
-                    return Err(CaseFault::Text(TextFault::TooLarge(at)));
-                };
-                self.row.level = level;
+                self.row.level = byte_of(number, at)?;
                 self.expect = Expect::Letter;
             }
             Expect::Letter => {
                 if number >= u64::from(ATOMS) {
-                    return Err(CaseFault::Text(TextFault::TooLarge(at)));
+                    return Err(PageFault::Text(TextFault::TooLarge(at)));
                 }
                 self.row.letters = with_letter(self.row.letters, number as u8);
             }
@@ -98,8 +106,8 @@ impl Page {
         Ok(())
     }
 
-    fn end_number(&mut self, at: usize) -> Result<(), CaseFault>
-        ensures { λ r. ⌜ Moves (endNumber (shownPage (now (self .entry))) at) (shownPage (now (self .exit))) r ⌝ }
+    fn end_number(&mut self, at: usize) -> Result<(), PageFault>
+        ensures { λ r. ⌜ Moves (endNumber (stateOf (now (self .entry))) at) (stateOf (now (self .exit))) r ⌝ }
     {
         match self.open {
             Some(number) => self.take_number(number, at),
@@ -108,8 +116,8 @@ impl Page {
     }
 
     // A line with a row on it adds the row; the first line with a byte on it ends the rule.
-    fn end_line(&mut self, at: usize) -> Result<(), CaseFault>
-        ensures { λ r. ⌜ Moves (endLine (shownPage (now (self .entry))) at) (shownPage (now (self .exit))) r ⌝ }
+    fn end_line(&mut self, at: usize) -> Result<(), PageFault>
+        ensures { λ r. ⌜ Moves (endLine (stateOf (now (self .entry))) at) (stateOf (now (self .exit))) r ⌝ }
     {
         self.comment = false;
         match self.expect {
@@ -119,7 +127,7 @@ impl Page {
                 }
             }
             Expect::Parent => {}
-            Expect::Level => return Err(CaseFault::Text(TextFault::TooFew(at))),
+            Expect::Level => return Err(PageFault::Text(TextFault::TooFew(at))),
             Expect::Letter => {
                 let row = self.row;
                 self.sheet.push(row)?;
@@ -130,25 +138,25 @@ impl Page {
         Ok(())
     }
 
-    fn add_digit(&mut self, byte: u8, at: usize) -> Result<(), CaseFault>
-        ensures { λ r. ⌜ Moves (addDigit (shownPage (now (self .entry))) byte at) (shownPage (now (self .exit))) r ⌝ }
+    fn add_digit(&mut self, byte: u8, at: usize) -> Result<(), PageFault>
+        ensures { λ r. ⌜ Moves (addDigit (stateOf (now (self .entry))) byte at) (stateOf (now (self .exit))) r ⌝ }
     {
         let base = self.base();
         let Some(value) = digit(byte, base) else {
-            return Err(CaseFault::Text(TextFault::Unexpected(at)));
+            return Err(PageFault::Text(TextFault::Unexpected(at)));
         };
         let Some(shifted) = self.open.unwrap_or(0).checked_mul(base) else {
-            return Err(CaseFault::Text(TextFault::TooLarge(at)));
+            return Err(PageFault::Text(TextFault::TooLarge(at)));
         };
         let Some(number) = shifted.checked_add(value) else {
-            return Err(CaseFault::Text(TextFault::TooLarge(at)));
+            return Err(PageFault::Text(TextFault::TooLarge(at)));
         };
         self.open = Some(number);
         Ok(())
     }
 
-    fn read_byte(&mut self, byte: u8, at: usize) -> Result<(), CaseFault>
-        ensures { λ r. ⌜ Moves (readByte (shownPage (now (self .entry))) byte at) (shownPage (now (self .exit))) r ⌝ }
+    fn read_byte(&mut self, byte: u8, at: usize) -> Result<(), PageFault>
+        ensures { λ r. ⌜ Moves (readByte (stateOf (now (self .entry))) byte at) (stateOf (now (self .exit))) r ⌝ }
     {
         match byte {
             b'\n' => {
@@ -168,7 +176,7 @@ impl Page {
 }
 
 // The rule's bytes and the sheet that the text has on it.
-pub fn read(heap: Global, text: &[u8]) -> Result<Page, CaseFault>
+pub(crate) fn read(heap: Global, text: &[u8]) -> Result<Page, PageFault>
     ensures { λ r. ⌜ PageRead (readPage (now (text .entry))) r ⌝ }
 {
     let mut page = Page::new(heap);

@@ -1,15 +1,14 @@
 -- Why no valuation is missed.
-use Prim.Native.Nat.{ℕ, zero, suc, _+_, _-_, _^_, _<_, _≤_}
+use Prim.Native.Nat.{ℕ, _+_, _^_, _<_, _≤_}
 use mathlib.Core.Path.{_≡_, refl, sym, _∙_, ap, subst}
-use mathlib.Core.Bool.{Bool, true, false, cond, not, _&&_, _||_}
-use mathlib.Core.List.{List, [], _∷_}
+use mathlib.Core.Bool.{Bool, true, false, not, _&&_, _||_}
+use mathlib.Core.List.{List}
 use native.Mathlib.Omega.{arith}
-use lib.Bits.{bitAnd, bitOr, and-le-l, or-lt, or-disjoint}
+use lib.Bits.{bitOr, and-le-l, or-lt, or-disjoint}
 use lib.Dec.{eqb, ltb}
-use lib.ListN.{length, getD, take}
+use lib.ListN.{length, getD}
 use Rattle.std.proofs.shelf.Ways.{tells}
 use Rattle.atoms.specs.Bits.{bit}
-use Rattle.atoms.specs.Assuming.{settled}
 use Rattle.atoms.specs.Sets.{has}
 use Rattle.atoms.specs.Clauses.{Valuation, makes, makesAll, names}
 use Rattle.atoms.specs.declared.assumptions.Assumptions.{Assumptions}
@@ -20,7 +19,7 @@ use Rattle.plain.proofs.Counting.{gathered, gathered-lt, gathered-bit, part-le
 use Rattle.atoms.proofs.Below.{true-false, not-true}
 use Rattle.atoms.proofs.Making.{agree-all}
 use Rattle.atoms.proofs.Obeying.{Follows}
-use Rattle.lists.proofs.Truth.{and-left, and-right, or-left, every-at}
+use Rattle.lists.proofs.Truth.{and-right, every-at}
 use Rattle.plain.specs.Counts.{Part, countedOver, Tried, First}
 
 -- the valuation tried for a part u of the free atoms: what must be in, and u

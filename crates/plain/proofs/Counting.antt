@@ -1,7 +1,7 @@
 -- The parts of a set of atoms in counting order.
-use Prim.Native.Nat.{ℕ, zero, suc, _+_, _-_, _*_, _/_, _%_, _^_, _<_, _≤_, min}
+use Prim.Native.Nat.{ℕ, zero, suc, _+_, _-_, _*_, _/_, _%_, _^_, _<_, _≤_}
 use mathlib.Core.Path.{_≡_, refl, sym, _∙_, ap}
-use mathlib.Core.Bool.{Bool, true, false, cond, not, _&&_, _||_}
+use mathlib.Core.Bool.{Bool, true, false, cond, not, _&&_}
 use native.Mathlib.Nat.{pow-succ'}
 use native.Mathlib.Omega.{arith}
 use lib.Bits.{bitAnd, bitOr, and-step, and-le-l, or-disjoint}
@@ -9,7 +9,7 @@ use lib.Dec.{eqb}
 use Rattle.std.proofs.shelf.Ways.{tells}
 use Rattle.atoms.specs.Bits.{bit}
 use Rattle.plain.specs.Counts.{Part}
-use Rattle.atoms.proofs.Members.{has-zero, has-suc, has-and, has-minus, has-nothing}
+use Rattle.atoms.proofs.Members.{has-zero, has-suc, has-minus, has-nothing}
 
 part-half : (u m : ℕ) → Part u m → Part (u / 2) (m / 2)
 part-half u m p i h = sym (has-suc m i) ∙ p (suc i) (has-suc u i ∙ h)

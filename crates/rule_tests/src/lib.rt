@@ -5,7 +5,9 @@ mod tests {
     use modal::faults::ReadFaultDebug;
     use modal::faults::ReadFaultPartialEq;
     use modal::faults::RowStart;
+    use modal::faults::WriteFault;
     use modal::faults::WriteFaultDebug;
+    use modal::faults::WriteFaultPartialEq;
     use modal::rule::Rule;
     use std::test::*;
 
@@ -18,14 +20,8 @@ mod tests {
         }
     }
 
-    // A letter under boxes, each on the row before.
-    fn boxes(bytes: &mut [u8; 18], count: u8) {
-        for k in 0..count.min(8) {
-            let at = 2 + 2 * k as usize;
-            bytes[at] = 6;
-            bytes[at + 1] = k;
-        }
-    }
+    // A letter under eight boxes, each on the row before.
+    const BOXES: [u8; 18] = [2, 0, 6, 0, 6, 1, 6, 2, 6, 3, 6, 4, 6, 5, 6, 6, 6, 7];
 
     #[test]
     fn children_are_earlier() -> Result<(), Fail> {
@@ -45,8 +41,7 @@ mod tests {
 
     #[test]
     fn depth_ends_at_7() -> Result<(), Fail> {
-        let mut bytes = [2, 0, 0, 0, 0, 0, 0, 0, 0, 0, 0, 0, 0, 0, 0, 0, 0, 0];
-        boxes(&mut bytes, 8);
+        let bytes = BOXES;
         check_eq(read(&bytes[0..16]), Ok(8))?;
         check_eq(read(&bytes), Err((7, 8)))
     }
@@ -73,7 +68,9 @@ mod tests {
         check_eq(rule.write(&mut out)?, 4)?;
         check_eq(out, [2, 0, 6, 0, 9, 9])?;
         let mut short = [9; 3];
-        check(rule.write(&mut short).is_err())?;
+        let fault = WriteFault::TooShort(4);
+        check_eq(rule.write(&mut short), Err(fault))?;
+        check_eq((fault.number(), fault.detail()), (10, 4))?;
         check_eq(short, [9; 3])
     }
 }

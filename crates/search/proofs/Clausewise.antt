@@ -1,22 +1,20 @@
 -- What a trail tells of a clause under the valuations that follow it.
-use Prim.Native.Nat.{ℕ, zero, suc, _<_, _≤_}
+use Prim.Native.Nat.{ℕ, _<_, _≤_}
 use mathlib.Core.Path.{_≡_, refl, sym, _∙_, ap}
 use mathlib.Core.Bool.{Bool, true, false, cond, not, _&&_, _||_}
 use native.Mathlib.Omega.{arith}
-use lib.Dec.{eqb, ltb}
-use borrow.Author.Tests.{eq-eqb}
+use lib.Dec.{eqb}
 use Rattle.std.proofs.shelf.Ways.{tells}
 use Rattle.atoms.specs.Assuming.{settled}
-use Rattle.atoms.specs.Clauses.{Valuation, obeysOne, makes, makesAt}
+use Rattle.atoms.specs.Clauses.{Valuation, obeysOne, makes}
 use Rattle.atoms.specs.Sets.{has}
 use Rattle.atoms.specs.declared.assumptions.Assumptions.{Assumptions}
 use Rattle.atoms.specs.declared.clauses.Clause.{Clause}
 use Rattle.atoms.specs.declared.clauses.Literal.{Literal}
-use Rattle.atoms.specs.declared.sets.AtomSet.{AtomSet}
-use Rattle.atoms.proofs.Below.{true-false, not-true}
+use Rattle.atoms.proofs.Below.{true-false}
 use Rattle.atoms.proofs.Making.{makes-none, unmade}
 use Rattle.atoms.proofs.Obeying.{Follows}
-use Rattle.search.specs.Judging.{trueAt, openAt, Conflicts, Forces, Leaves, Sole}
+use Rattle.search.specs.Judging.{trueAt, openAt, Conflicts, Forces, Leaves}
 use Rattle.search.specs.Searches.{Apart, Full}
 
 -- a clause that the trail makes false is false under every valuation that follows the trail

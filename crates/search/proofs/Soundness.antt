@@ -1,8 +1,8 @@
 -- Why the answers of the search are right.
-use Prim.Native.Nat.{ℕ, _+_, _<_}
+use Prim.Native.Nat.{ℕ, _<_}
 use mathlib.Core.Path.{_≡_, refl, sym, _∙_, ap, subst}
 use mathlib.Core.Bool.{Bool, true, false, not, _&&_, _||_}
-use mathlib.Core.List.{List, [], _∷_}
+use mathlib.Core.List.{List, _∷_}
 use native.Mathlib.Omega.{arith}
 use lib.Dec.{eqb, ltb}
 use Rattle.std.proofs.shelf.Ways.{tells}
@@ -18,7 +18,7 @@ use Rattle.atoms.specs.declared.sets.AtomSet.{AtomSet}
 use Rattle.atoms.proofs.Below.{true-false, count-less}
 use Rattle.atoms.proofs.Making.{agree-all}
 use Rattle.atoms.proofs.Obeying.{Follows, obeys-follows, follows-obeys, clash-never, follows-less, follows-more}
-use Rattle.lists.proofs.Truth.{and-left, and-right, and-both, or-left, off}
+use Rattle.lists.proofs.Truth.{and-left, and-right, and-both, or-left}
 use Rattle.oracle.specs.Oracles.{Finds, Satisfies, Shut}
 use Rattle.search.specs.Judging.{FirstJudged, none, here, later, Judged, Forces}
 use Rattle.search.specs.Searches.{Searched, clash, conflict, follow, full, tryIn, tryOut, Started, SearchedFrom, Apart, Full, inside, outside, undecidedIn}

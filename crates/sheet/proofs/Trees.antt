@@ -1,5 +1,5 @@
 -- The rows that a sheet shows, and the Kripke model that they are.
-use mathlib.Core.Path.{_≡_, refl, sym, ap, subst, _∙_}
+use mathlib.Core.Path.{_≡_, refl, ap, subst, _∙_}
 use mathlib.Core.Bool.{Bool, true, false, cond, _&&_}
 use mathlib.Core.List.{List, [], _∷_, _++_}
 use mathlib.Core.Logic.{⊎-elim}
@@ -16,7 +16,7 @@ use Rattle.std.specs.Results.{Cases}
 use Rattle.std.specs.declared.result.Result.{Result}
 use Rattle.std.specs.declared.result.Result.the-variants.{Ok, Err}
 use Rattle.lists.specs.Lists.{every}
-use Rattle.modal.specs.Kripke.{World, Model, world, bare}
+use Rattle.modal.specs.Kripke.{World, world}
 use Rattle.atoms.specs.Sets.{has, onlyLetters}
 use Rattle.sheet.specs.Sheets.{noRow, successorsOf, worldsFrom, worldsOf, Earlier, isBlank, rowStands, someRows, shownFrom, shownRows, ShownTree}
 use Rattle.sheet.specs.declared.faults.SheetFault.{SheetFault}

@@ -1,19 +1,18 @@
 -- The truth of a rule's rows at a world, from the world's letters and the truth of rows at its successors.
 use mathlib.Core.Path.{_≡_, refl, sym, ap, ap₂, subst, _∙_}
-use mathlib.Core.Bool.{Bool, true, false, not, cond, _&&_, _||_}
+use mathlib.Core.Bool.{Bool, true, false, not, _&&_, _||_}
 use mathlib.Core.List.{List, [], _∷_}
 use mathlib.Core.Logic.{⊎-elim}
 use Prim.Native.Nat.{ℕ, _+_, _<_, _≤_}
 use native.Mathlib.Omega.{arith}
 use lib.Dec.{eqb, ltb}
 use lib.ListN.{length, getD, drop}
-use Rattle.std.proofs.shelf.Lists.{drop-all}
-use Rattle.std.proofs.shelf.Tests.{and-parts, ltb-true, lt-ltb, eq-eqb, ne-eqb, cases-lt}
+use Rattle.std.proofs.shelf.Tests.{and-parts, ltb-true, eq-eqb, ne-eqb, cases-lt}
 use Rattle.std.proofs.shelf.Ways.{tells}
 use Rattle.lists.specs.Lists.{every, some}
 use Rattle.lists.proofs.Truth.{and-true, or-false, and-assoc, or-assoc}
 use Rattle.modal.specs.Kripke.{Formula, World, world, meets}
-use Rattle.modal.specs.Rows.{forms, formAt, formOf, childEarlier, lawful}
+use Rattle.modal.specs.Rows.{forms, formOf, childEarlier, lawful}
 use Rattle.modal.specs.declared.row.Row.{Row}
 use Rattle.modal.specs.declared.row.Row.the-variants.{False, True, Letter, Not, And, Or, Box, Diamond}
 use Rattle.modal.proofs.Built.{form-at, placed}
@@ -37,27 +36,6 @@ looks-earlier j (Box c) h = omega (arith, ltb-true c j h)
 looks-earlier j (Diamond c) h = omega (arith, ltb-true c j h)
 
 module _ (rows : List Row) (ws : List World) (w : ℕ) where
-  sees-row : (count : ℕ) (over : Over) → OverRows rows count ws w over → (r : Row) → looksAt r ≤ count → SeesRow rows ws w over r
-  sees-row count over o False h = tt
-  sees-row count over o True h = tt
-  sees-row count over o (Letter a) h = tt
-  sees-row count over o (Not c) h = tt
-  sees-row count over o (And c e) h = tt
-  sees-row count over o (Or c e) h = tt
-  sees-row count over o (Box c) h = o .everywhere c (omega arith)
-  sees-row count over o (Diamond c) h = o .somewhere c (omega arith)
-
-  -- what is known over the successors is enough for the rows that look no further
-  pub sees : (count most : ℕ) (over : Over) → ((j : ℕ) → j < count → looksAt (getD rows j False) ≤ most) → OverRows rows most ws w over → Sees rows count ws w over
-  sees count most over h o j l = sees-row most over o (getD rows j False) (h j l)
-
-  none-known : (over : Over) → OverRows rows 0 ws w over
-  none-known over = record { everywhere = λ j l. absurd (omega arith); somewhere = λ j l. absurd (omega arith) }
-
-  -- rows that look at nothing need nothing
-  pub sees-nothing : (count most : ℕ) (over : Over) → most ≡ 0 → ((j : ℕ) → j < count → looksAt (getD rows j False) ≤ most) → Sees rows count ws w over
-  sees-nothing count most over e h = sees count 0 over (λ j l. omega (arith, h j l)) (none-known over)
-
   module _ (ok : lawful rows ≡ true) (letters known : AtomSet) (over : Over) (same : (a : ℕ) → has letters a ≡ world ws w .letters a) where
     by-row : (j : ℕ) → TrueRows rows j ws w known → (r : Row) → childEarlier j r ≡ true → SeesRow rows ws w over r → rowTrue r letters known over ≡ meets (formOf (forms rows) r) ws w
     by-row j h False c s = refl

@@ -1,12 +1,8 @@
--- The refusal of a sheet: its number and its detail.
-use Prim.Native.Nat.{ℕ}
+-- The refusal of a sheet: its number with its detail.
+use Rattle.modal.specs.Faults.{Refusal, refusal}
 use Rattle.sheet.specs.declared.faults.SheetFault.{SheetFault}
 use Rattle.sheet.specs.declared.faults.SheetFault.the-variants.{NoRoot, Unlawful}
 
-abbrev pub sheetNumber : SheetFault → ℕ
-sheetNumber NoRoot = 9
-sheetNumber (Unlawful row) = 9
-
-abbrev pub sheetDetail : SheetFault → ℕ
-sheetDetail NoRoot = 0
-sheetDetail (Unlawful row) = row
+abbrev pub sheetRefusal : SheetFault → Refusal
+sheetRefusal NoRoot = refusal 9 0
+sheetRefusal (Unlawful row) = refusal 9 row

@@ -1,6 +1,6 @@
 // What was wrong with a sheet.
 ghost use mathlib.Core.Path.{_≡_};
-ghost use Rattle.sheet.specs.Faults.{sheetNumber, sheetDetail};
+ghost use Rattle.sheet.specs.Faults.{sheetRefusal};
 use std::fmt;
 
 #[derive(Clone, Copy, PartialEq, Eq, Debug)]
@@ -14,7 +14,7 @@ pub enum SheetFault {
 impl SheetFault {
     // The number of the refusal.
     pub fn number(self) -> u8
-        ensures { λ r. ⌜ r ≡ sheetNumber self ⌝ }
+        ensures { λ r. ⌜ r ≡ sheetRefusal self .number ⌝ }
     {
         match self {
             SheetFault::NoRoot | SheetFault::Unlawful(_) => 9,
@@ -23,7 +23,7 @@ impl SheetFault {
 
     // The detail of the refusal.
     pub fn detail(self) -> u64
-        ensures { λ r. ⌜ r ≡ sheetDetail self ⌝ }
+        ensures { λ r. ⌜ r ≡ sheetRefusal self .detail ⌝ }
     {
         match self {
             SheetFault::NoRoot => 0,

@@ -18,7 +18,7 @@ impl SheetRow {
     // What stands in the rows after a tree.
     pub const BLANK: SheetRow = SheetRow {
         parent: 0,
-        level: 255,
+        level: BLANK_LEVEL,
         letters: AtomSet { bits: 0 },
     };
 

@@ -10,7 +10,7 @@ use Rattle.std.specs.declared.option.Option.the-variants.{Some, None}
 use Rattle.atoms.specs.Sets.{has}
 use Rattle.atoms.specs.declared.clauses.Entry.{Entry}
 use Rattle.atoms.specs.declared.sets.AtomSet.{AtomSet}
-use Rattle.exhaustive.specs.Exhausts.{Made, Ends}
+use Rattle.exhaustive.specs.Exhausts.{Ends}
 use Rattle.exhaustive.proofs.Varying.{alone, wider, neither}
 use Rattle.exhaustive.proofs.+find.Needs as need
 

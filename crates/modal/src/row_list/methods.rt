@@ -5,7 +5,7 @@
 ghost use mathlib.Core.Bool.{true};
 ghost use mathlib.Core.List.{[], _∷_};
 ghost use mathlib.Core.Path.{_≡_};
-ghost use Prim.Native.Nat.{_≤_, _<_};
+ghost use Prim.Native.Nat.{_<_};
 ghost use lib.ListN.{length, take, getD};
 ghost use Rattle.modal.specs.Format.{parse, placed};
 ghost use Rattle.modal.specs.Rows.{childEarlier, depthOf, rowDepths};

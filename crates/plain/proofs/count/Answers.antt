@@ -4,8 +4,6 @@ use mathlib.Core.Path.{_≡_, refl, sym, _∙_, ap, subst}
 use mathlib.Core.Bool.{Bool, true, false, not, _&&_, _||_}
 use mathlib.Core.List.{List}
 use Rattle.std.proofs.shelf.Lists.{take-all}
-use Rattle.atoms.specs.Assuming.{Obeys}
-use Rattle.atoms.specs.Bits.{bit}
 use Rattle.atoms.specs.Clauses.{Valuation, makes, makesAll, names}
 use Rattle.atoms.specs.Sets.{has}
 use Rattle.atoms.specs.declared.assumptions.Assumptions.{Assumptions}
@@ -37,7 +35,8 @@ next-holds c = (λ i h. absurd (true-false h (has-none i)), (λ u lu p l. absurd
 -- the free atoms
 free-is : (es : List Entry) (w : Assumptions) (n m f : AtomSet) → ((i : ℕ) → has n i ≡ names es i) → ((i : ℕ) → has m i ≡ has n i && not (has (w .within) i))
     → ((i : ℕ) → has f i ≡ has m i && not (has (w .without) i)) → (i : ℕ) → has f i ≡ countedOver es w i
-free-is es w n m f a b d i = let x = a i in let y = b i in let z = d i in d i ∙ ap (λ (t : Bool). t && not (has (w .without) i)) (b i ∙ ap (λ (t : Bool). t && not (has (w .within) i)) (a i)) ∙ both (names es i) (has (w .within) i) (has (w .without) i)
+free-is es w n m f a b d i =
+    d i ∙ ap (λ (t : Bool). t && not (has (w .without) i)) (b i ∙ ap (λ (t : Bool). t && not (has (w .within) i)) (a i)) ∙ both (names es i) (has (w .within) i) (has (w .without) i)
   where
     both : (n a o : Bool) → ((n && not a) && not o) ≡ (n && not (a || o))
     both true true o = refl

@@ -1,7 +1,7 @@
 use native.Mathlib.Omega.{arith}
 use Prim.Native.Nat.{ℕ, _+_, _-_, _^_, _<_, _≤_}
 use mathlib.Core.Path.{_≡_, sym, _∙_, ap, subst}
-use lib.Bits.{bitAnd, bitOr}
+use lib.Bits.{bitAnd}
 use Rattle.atoms.specs.Bits.{bit}
 use Rattle.atoms.proofs.Members.{has-and}
 use Rattle.lists.proofs.Truth.{and-right}

@@ -1,6 +1,4 @@
-use mathlib.Core.Path.{_≡_, refl, sym, _∙_, ap}
-use mathlib.Core.Bool.{Bool, true, false}
-use mathlib.Core.List.{List}
+use mathlib.Core.Path.{sym, _∙_, ap}
 use Rattle.std.proofs.shelf.Lists.{take-all}
 use Rattle.atoms.specs.Clauses.{makes, makesAll}
 use Rattle.atoms.specs.Sets.{has}

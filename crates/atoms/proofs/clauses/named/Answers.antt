@@ -1,4 +1,4 @@
-use mathlib.Core.Path.{_≡_, _∙_, ap}
+use mathlib.Core.Path.{_∙_, ap}
 use mathlib.Core.List.{List}
 use Rattle.std.proofs.shelf.Lists.{take-all}
 use Rattle.atoms.specs.Clauses.{names, hasAtom}

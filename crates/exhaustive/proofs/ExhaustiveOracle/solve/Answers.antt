@@ -1,7 +1,6 @@
-use native.Mathlib.Omega.{arith}
 use Prim.Native.Nat.{ℕ}
 use mathlib.Core.Path.{_≡_, refl, sym, _∙_}
-use mathlib.Core.Bool.{Bool, not, _&&_}
+use mathlib.Core.Bool.{not, _&&_}
 use mathlib.Core.List.{List}
 use Rattle.atoms.specs.Assuming.{settled}
 use Rattle.atoms.specs.Clauses.{names}

@@ -6,7 +6,7 @@ use Rattle.atoms.specs.declared.assumptions.Assumptions.{Assumptions}
 use Rattle.atoms.specs.declared.clauses.Entry.{Entry}
 use Rattle.atoms.specs.declared.sets.AtomSet.{AtomSet}
 use Rattle.oracle.proofs.Answering.{solves-core, solves-valuation}
-use Rattle.search.specs.Searches.{SearchedFrom, Started, Searched}
+use Rattle.search.specs.Searches.{SearchedFrom}
 use Rattle.search.proofs.Soundness.{from-finds}
 use Rattle.search.proofs.SearcherOracle.solve.Needs as need
 

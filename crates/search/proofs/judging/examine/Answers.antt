@@ -1,15 +1,13 @@
 use Prim.Native.Nat.{ℕ, _+_, _<_}
 use mathlib.Core.Path.{_≡_, sym, subst}
-use mathlib.Core.List.{List, [], _∷_}
+use mathlib.Core.List.{List, _∷_}
 use native.Mathlib.Numerals.{add-one}
 use lib.ListN.{length, getD, drop}
 use lib.Seq.{drop-cons}
 use Rattle.std.proofs.shelf.Lists.{drop-all}
-use Rattle.atoms.specs.declared.assumptions.Assumptions.{Assumptions}
 use Rattle.atoms.specs.declared.clauses.Entry.{Entry}
 use Rattle.atoms.proofs.Making.{blank}
-use Rattle.search.specs.Judging.{FirstJudged, none, here, later, Judged}
-use Rattle.search.specs.declared.status.Status.{Status}
+use Rattle.search.specs.Judging.{FirstJudged, none, here, later}
 use Rattle.search.specs.declared.status.Status.the-variants.{Open}
 use Rattle.search.proofs.judging.examine.Needs as need
 

@@ -1,10 +1,9 @@
 use native.Mathlib.Omega.{arith}
 use mathlib.Core.Path.{_≡_, sym, ap, subst, _∙_}
-use mathlib.Core.Bool.{Bool, false}
+use mathlib.Core.Bool.{false}
 use Prim.Native.Nat.{ℕ, _+_, _<_, _≤_}
 use lib.ListN.{getD}
 use Rattle.modal.specs.Kripke.{World}
-use Rattle.modal.specs.declared.row.Row.the-variants.{False}
 use Rattle.modal.proofs.Built.{few-rows}
 use Rattle.atoms.specs.Sets.{has}
 use Rattle.atoms.specs.declared.sets.AtomSet.{AtomSet}

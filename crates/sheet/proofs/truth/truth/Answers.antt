@@ -1,9 +1,6 @@
 use native.Mathlib.Omega.{arith}
-use mathlib.Core.Path.{sym, subst, ap, _∙_}
-use mathlib.Core.Bool.{true}
-use mathlib.Core.List.{List}
+use mathlib.Core.Path.{ap, _∙_}
 use Rattle.modal.specs.Rows.{lawful}
-use Rattle.modal.specs.declared.row.Row.{Row}
 use Rattle.modal.proofs.Built.{some-rows}
 use Rattle.sheet.proofs.Trees.{shown-tree}
 use Rattle.sheet.proofs.truth.truth.Needs as need

@@ -1,7 +1,7 @@
 use native.Mathlib.Omega.{arith}
 use Prim.Native.Nat.{ℕ}
-use mathlib.Core.Path.{_≡_, sym, _∙_, ap}
-use mathlib.Core.Bool.{Bool, true, false, not, _&&_}
+use mathlib.Core.Path.{sym, _∙_, ap}
+use mathlib.Core.Bool.{Bool, not, _&&_}
 use Rattle.atoms.specs.Sets.{has, someBelow}
 use Rattle.atoms.proofs.Members.{has-high}
 use Rattle.atoms.proofs.Below.{empty-none, some-same}

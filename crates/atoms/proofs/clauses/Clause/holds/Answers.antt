@@ -1,5 +1,5 @@
 use native.Mathlib.Omega.{arith}
-use mathlib.Core.Path.{_≡_, _∙_, ap}
+use mathlib.Core.Path.{_∙_, ap}
 use mathlib.Core.Bool.{not}
 use Rattle.atoms.specs.Sets.{has, someBelow}
 use Rattle.atoms.proofs.Members.{has-high}

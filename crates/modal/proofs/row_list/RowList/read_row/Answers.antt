@@ -1,15 +1,14 @@
-use mathlib.Core.Path.{_≡_, refl, sym, ap, ap₂, _∙_}
+use mathlib.Core.Path.{_≡_, sym, ap, ap₂, _∙_}
 use Prim.Native.Nat.{ℕ, _+_, _-_}
 use native.Mathlib.Omega.{arith}
-use lib.ListN.{take, drop, length, getD}
-use mathlib.Core.List.{List, [], _∷_, _++_}
+use lib.ListN.{drop, length, getD}
+use mathlib.Core.List.{[], _∷_, _++_}
 use Rattle.std.proofs.shelf.Lists.{length-take-le}
 use Rattle.std.proofs.shelf.Results.{err-from-errBy}
-use Rattle.std.specs.declared.result.Result.the-variants.{Ok, Err}
+use Rattle.std.specs.declared.result.Result.the-variants.{Err}
 use Rattle.modal.specs.declared.row.Row.{Row}
 use Rattle.modal.specs.declared.row_list.RowList.{RowList}
 use Rattle.modal.specs.declared.faults.RowStart.{RowStart}
-use Rattle.modal.specs.declared.faults.ReadFault.{ReadFault}
 use Rattle.modal.specs.declared.faults.ReadFault.the-variants.{UnknownKind, CutOff, TooManyRows}
 use Rattle.modal.specs.Rows.{rowDepths}
 use Rattle.modal.specs.Format.{parse, placed, rowOf, bodyLen, startOf}

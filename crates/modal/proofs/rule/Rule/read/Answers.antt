@@ -1,11 +1,9 @@
-use mathlib.Core.Path.{_≡_, sym, ap, _∙_}
-use Prim.Native.Nat.{_<_}
+use mathlib.Core.Path.{ap, _∙_}
 use native.Mathlib.Omega.{arith}
 use lib.ListN.{length}
 use Rattle.std.proofs.shelf.Lists.{length-take-le}
 use Rattle.std.proofs.shelf.Ways.{tells}
 use Rattle.modal.specs.Rules.{listed}
-use Rattle.modal.specs.Format.{written}
 use Rattle.modal.proofs.Writing.{round-trip, some-written, parsed-some}
 use Rattle.modal.proofs.rule.Rule.read.Needs as need
 

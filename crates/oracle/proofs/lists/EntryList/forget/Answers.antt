@@ -1,6 +1,5 @@
 use native.Mathlib.Omega.{arith}
-use Prim.Native.Nat.{ℕ, _≤_}
-use mathlib.Core.Path.{_≡_, ap, sym, _∙_}
+use mathlib.Core.Path.{ap, _∙_}
 use lib.ListN.{length, take}
 use Rattle.atoms.specs.Clauses.{definitions, learnt, isDefinition}
 use Rattle.oracle.specs.declared.lists.EntryList.{EntryList}

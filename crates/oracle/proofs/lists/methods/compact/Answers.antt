@@ -1,8 +1,6 @@
-use borrow.Author.Needs.{needs}
 use native.Mathlib.Omega.{arith}
 use Prim.Native.Nat.{ℕ, _<_}
-use mathlib.Core.Path.{_≡_, ap, sym, _∙_}
-use mathlib.Core.Bool.{true, false}
+use mathlib.Core.Path.{_≡_, ap, _∙_}
 use lib.ListN.{length, take, getD}
 use Rattle.std.proofs.shelf.Filters.{keeping-more-set, keeping-more-no}
 use Rattle.std.proofs.shelf.Lists.{getD-default}

@@ -1,6 +1,5 @@
 use Rattle.std.proofs.shelf.Filters.{Keeping}
 use Rattle.atoms.specs.Clauses.{isDefinition}
-use lib.ListN.{take}
 use Rattle.oracle.proofs.lists.methods.compact.Given as given
 
 abbrev pub Inv-loop-i : given.InvT-loop-i

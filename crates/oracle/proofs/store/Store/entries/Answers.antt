@@ -1,6 +1,5 @@
 use native.Mathlib.Omega.{arith}
-use Prim.Native.Nat.{ℕ}
-use mathlib.Core.Path.{_≡_, sym, _∙_, ap}
+use mathlib.Core.Path.{_∙_, ap}
 use Rattle.oracle.specs.Stores.{entriesIn}
 use Rattle.oracle.proofs.Storing.{entries-read}
 use Rattle.oracle.proofs.store.Store.entries.Needs as need
