@@ -3,13 +3,14 @@ ghost use mathlib.Core.Path.{_≡_};
 ghost use Rattle.modal.specs.Faults.{readRefusal, readStart, writeRefusal};
 use std::fmt;
 
-// A row of the bytes, and the byte where it begins.
+/// A row of the bytes, and the byte where it begins.
 #[derive(Clone, Copy, PartialEq, Eq, Debug)]
 pub struct RowStart {
     pub row: u8,
     pub byte: usize,
 }
 
+/// Why bytes are no rule, with the row at fault.
 #[derive(Clone, Copy, PartialEq, Eq, Debug)]
 pub enum ReadFault {
     NoBytes,
@@ -22,7 +23,7 @@ pub enum ReadFault {
 }
 
 impl ReadFault {
-    // The number of the refusal.
+    /// The number of the refusal.
     pub fn number(self) -> u8
         ensures { λ r. ⌜ r ≡ readRefusal self .number ⌝ }
     {
@@ -37,7 +38,7 @@ impl ReadFault {
         }
     }
 
-    // The detail of the refusal.
+    /// The detail of the refusal.
     pub fn detail(self) -> u64
         ensures { λ r. ⌜ r ≡ readRefusal self .detail ⌝ }
     {
@@ -47,7 +48,7 @@ impl ReadFault {
         }
     }
 
-    // The row at fault and the byte where it begins.
+    /// The row at fault and the byte where it begins.
     pub fn start(self) -> RowStart
         ensures { λ r. ⌜ r ≡ readStart self ⌝ }
     {
@@ -83,14 +84,15 @@ pub impl fmt::Display for ReadFault as ReadFaultDisplay {
     }
 }
 
+/// Why a rule is not written.
 #[derive(Clone, Copy, PartialEq, Eq, Debug)]
 pub enum WriteFault {
-    // The buffer has fewer bytes than this number, which the rule needs.
+    /// The buffer has fewer bytes than this number, which the rule needs.
     TooShort(usize),
 }
 
 impl WriteFault {
-    // The number of the refusal.
+    /// The number of the refusal.
     pub fn number(self) -> u8
         ensures { λ r. ⌜ r ≡ writeRefusal self .number ⌝ }
     {
@@ -99,7 +101,7 @@ impl WriteFault {
         }
     }
 
-    // The detail of the refusal.
+    /// The detail of the refusal.
     pub fn detail(self) -> u64
         ensures { λ r. ⌜ r ≡ writeRefusal self .detail ⌝ }
     {

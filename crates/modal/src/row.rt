@@ -9,6 +9,7 @@ use std::fmt;
 
 const LAST_LETTER: u8 = 14;
 
+/// A formula, or a connective over the rows with these numbers.
 #[derive(Clone, Copy, PartialEq, Eq, Debug)]
 pub enum Row {
     False,

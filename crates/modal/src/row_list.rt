@@ -11,6 +11,7 @@ pub(crate) mod methods;
 
 pub(crate) const MAX_ROWS: usize = 64;
 
+/// Rows that may stand at the front of a rule.
 #[derive(Clone, Copy)]
 pub struct RowList {
     rows: [Row; 64],

@@ -4,7 +4,7 @@ use crate::row_list::RowList;
 
 mod methods;
 
-// It is no `Copy`: whoever is handed a rule for good is the only one to have it.
+/// A lawful rule. It is no `Copy`: whoever is handed a rule for good is the only one to have it.
 #[derive(Drop)]
 pub struct Rule {
     list: RowList,

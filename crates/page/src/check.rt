@@ -10,15 +10,16 @@ use sheet::row::SheetRow;
 use sheet::truth::truth;
 use std::alloc::Global;
 
+/// What was checked, with the verdict.
 #[derive(Drop)]
 pub struct Checked {
     pub rule: Rule,
     pub sheet: Vec<SheetRow>,
-    // Whether the root of the sheet meets the rule.
+    /// Whether the root of the sheet meets the rule.
     pub met: bool,
 }
 
-// Whether the root of the sheet on the page meets the rule on the page, with both.
+/// Whether the root of the sheet on the page meets the rule on the page, with both.
 pub fn check(heap: Global, text: &[u8]) -> Result<Checked, PageFault>
     ensures { λ r. ⌜ Checks (now (text .entry)) r ⌝ }
 {

@@ -4,6 +4,7 @@ use atoms::sets::AtomSet;
 use sheet::row::SheetRow;
 use std::fmt;
 
+/// The rows of a tree, to be shown as an indented drawing.
 #[derive(Clone, Copy)]
 pub struct Drawing<'a>(pub &'a [SheetRow]);
 

@@ -10,14 +10,14 @@ use sheet::faults::SheetFaultDisplay;
 use std::alloc::Refused;
 use std::fmt;
 
-// Each with the byte of the text at which it is found.
+/// Why a text is no page, with the byte of the text at which that is found.
 #[derive(Clone, Copy, Debug)]
 pub enum TextFault {
-    // A byte that is no digit, blank or end of a line.
+    /// A byte that is no digit, blank or end of a line.
     Unexpected(usize),
-    // A number that is too large for its place.
+    /// A number that is too large for its place.
     TooLarge(usize),
-    // A row that ends before its level.
+    /// A row that ends before its level.
     TooFew(usize),
 }
 
@@ -31,12 +31,13 @@ pub impl fmt::Display for TextFault as TextFaultDisplay {
     }
 }
 
+/// Why a page has no verdict, by the layer that refused it.
 #[derive(Clone, Copy, Debug)]
 pub enum PageFault {
     Text(TextFault),
     Rule(ReadFault),
     Sheet(SheetFault),
-    // There was no memory for the page.
+    /// There was no memory for the page.
     Memory,
 }
 

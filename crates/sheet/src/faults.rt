@@ -3,16 +3,17 @@ ghost use mathlib.Core.Path.{_≡_};
 ghost use Rattle.sheet.specs.Faults.{sheetRefusal};
 use std::fmt;
 
+/// Why a sheet shows no tree.
 #[derive(Clone, Copy, PartialEq, Eq, Debug)]
 pub enum SheetFault {
-    // The sheet is empty, or its first row is blank.
+    /// The sheet is empty, or its first row is blank.
     NoRoot,
-    // The lowest unlawful row before the first blank.
+    /// The lowest unlawful row before the first blank.
     Unlawful(u64),
 }
 
 impl SheetFault {
-    // The number of the refusal.
+    /// The number of the refusal.
     pub fn number(self) -> u8
         ensures { λ r. ⌜ r ≡ sheetRefusal self .number ⌝ }
     {
@@ -21,7 +22,7 @@ impl SheetFault {
         }
     }
 
-    // The detail of the refusal.
+    /// The detail of the refusal.
     pub fn detail(self) -> u64
         ensures { λ r. ⌜ r ≡ sheetRefusal self .detail ⌝ }
     {

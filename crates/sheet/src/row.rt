@@ -7,6 +7,7 @@ use atoms::sets::AtomSetPartialEq;
 
 const BLANK_LEVEL: u8 = 255;
 
+/// A world, or nothing where it is blank.
 #[derive(Clone, Copy, PartialEq, Eq, Debug)]
 pub struct SheetRow {
     pub parent: u64,
@@ -15,13 +16,14 @@ pub struct SheetRow {
 }
 
 impl SheetRow {
-    // What stands in the rows after a tree.
+    /// What stands in the rows after a tree.
     pub const BLANK: SheetRow = SheetRow {
         parent: 0,
         level: BLANK_LEVEL,
         letters: AtomSet { bits: 0 },
     };
 
+    /// Whether the row is blank.
     pub fn is_blank(&self) -> bool
         ensures { λ r. ⌜ r ≡ isBlank (now (self .entry)) ⌝ }
     {

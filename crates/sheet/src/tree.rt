@@ -40,7 +40,7 @@ fn front(sheet: &[SheetRow], n: usize) -> Result<&[SheetRow], SheetFault>
     Ok(&sheet[0..n])
 }
 
-// The rows before the first blank, in place.
+/// The rows before the first blank, in place.
 pub fn shown(sheet: &[SheetRow]) -> Result<&[SheetRow], SheetFault>
     ensures { λ r. ⌜ Cases r (λ t. ShownTree (now (sheet .entry)) (now t)) (λ e. shownRows (now (sheet .entry)) ≡ Err e) ⌝ }
 {

@@ -62,7 +62,7 @@ fn truth_over(tree: &[SheetRow], rows: &[Row], count: usize, world: usize) -> Ov
     Over { all, any }
 }
 
-// Whether the root of the tree that the sheet shows meets the rule.
+/// Whether the root of the tree that the sheet shows meets the rule.
 pub fn truth(sheet: &[SheetRow], rule: &Rule) -> Result<bool, SheetFault>
     ensures { λ r. ⌜ r ≡ truthOn (shownRows (now (sheet .entry))) (rowsOf (now (rule .entry))) ⌝ }
 {

@@ -16,14 +16,14 @@ use crate::row_list::methods::single;
 use crate::rule::Rule;
 
 impl Rule {
-    // The single row true.
+    /// The single row true.
     pub fn new() -> Rule
         ensures { λ r. ⌜ rowsOf r ≡ True ∷ [] ⌝ }
     {
         Rule { list: single() }
     }
 
-    // The rows, in place.
+    /// The rows, in place.
     pub fn rows(&self) -> &[Row]
         ensures value { λ r. ⌜ now r ≡ rowsOf (now (self .entry)) ⌝ }
         ensures lawful { λ r. ⌜ lawful (rowsOf (now (self .entry))) ≡ true ⌝ }
@@ -31,7 +31,7 @@ impl Rule {
         self.list.rows()
     }
 
-    // Fills the rule with the rows that the bytes say. A refusal leaves it as it was.
+    /// Fills the rule with the rows that the bytes say. A refusal leaves it as it was.
     pub fn read(&mut self, bytes: &[u8]) -> Result<(), ReadFault>
         ensures { λ r. ⌜ Reads (now (bytes .entry)) (now (self .entry)) (now (self .exit)) r ⌝ }
     {
@@ -43,7 +43,7 @@ impl Rule {
         Ok(())
     }
 
-    // Puts the rule's bytes at the start of the buffer, and answers their number.
+    /// Puts the rule's bytes at the start of the buffer, and answers their number.
     pub fn write(&self, out: &mut [u8]) -> Result<usize, WriteFault>
         ensures { λ r. ⌜ Writes (rowsOf (now (self .entry))) (now (out .entry)) (now (out .exit)) r ⌝ }
     {
