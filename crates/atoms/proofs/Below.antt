@@ -6,42 +6,26 @@ use native.Mathlib.Nat.{pow-succ'}
 use native.Mathlib.Omega.{arith}
 use lib.Count.{ones, ones-step}
 use lib.Dec.{eqb}
+use Rattle.std.proofs.shelf.Tests.{or-from, or-left, or-right}
 use Rattle.std.proofs.shelf.Ways.{tells}
 use Rattle.atoms.specs.Bits.{bit}
 use Rattle.atoms.specs.Sets.{someBelow, countBelow}
 use Rattle.atoms.proofs.Members.{has-zero, has-suc}
-
-pub true-false : {b : Bool} → b ≡ true → b ≡ false → ⊥
-true-false e f = let z : true ≡ false = sym e ∙ f in grind (arith, tells)
-
-pub not-true : (b : Bool) → (b ≡ true → ⊥) → b ≡ false
-not-true true h = absurd (h refl)
-not-true false h = refl
+use Rattle.lists.proofs.Truth.{true-false, not-true}
 
 pub some-none : (n : ℕ) (p : ℕ → Bool) → ((i : ℕ) → i < n → p i ≡ false) → someBelow n p ≡ false
 unfolding someBelow
 some-none zero p h = refl
-some-none (suc n) p h = both (p n) (someBelow n p) (h n (omega arith)) (some-none n p (λ i l. h i (omega arith)))
-  where
-    both : (a b : Bool) → a ≡ false → b ≡ false → (a || b) ≡ false
-    both a b e f = grind (arith, tells)
+some-none (suc n) p h = or-from (p n) (someBelow n p) (h n (omega arith)) (some-none n p (λ i l. h i (omega arith)))
 
 pub some-here : (n : ℕ) (p : ℕ → Bool) (i : ℕ) → i < n → p i ≡ true → someBelow n p ≡ true
 unfolding someBelow
 some-here zero p i l e = absurd (let z : ⊥ = omega arith in z)
 some-here (suc n) p i l e = at (eqb i n) refl (λ h. some-here n p i h e)
   where
-    left-true : (a b : Bool) → a ≡ true → (a || b) ≡ true
-    left-true true b e = refl
-    left-true false b e = absurd (true-false e refl)
-
-    right-true : (a b : Bool) → b ≡ true → (a || b) ≡ true
-    right-true true b e = refl
-    right-true false b e = e
-
     at : (b : Bool) → eqb i n ≡ b → (i < n → someBelow n p ≡ true) → (p n || someBelow n p) ≡ true
-    at true q f = left-true (p n) (someBelow n p) (ap p (let z : n ≡ i = grind (arith, tells) in z) ∙ e)
-    at false q f = right-true (p n) (someBelow n p) (f (let z : i < n = grind (arith, tells) in z))
+    at true q f = or-left (p n) (someBelow n p) (ap p (let z : n ≡ i = grind (arith, tells) in z) ∙ e)
+    at false q f = or-right (p n) (someBelow n p) (f (let z : i < n = grind (arith, tells) in z))
 
 -- where the test holds of none, it holds of no number below the bound
 pub none-at : (n : ℕ) (p : ℕ → Bool) → someBelow n p ≡ false → (i : ℕ) → i < n → p i ≡ false
@@ -77,15 +61,6 @@ count-same (suc n) p q h =
     let e : one (p n) ≡ one (q n) = ap (λ (b : Bool). one b) (h n (omega arith)) in
     let f = count-same n p q (λ i l. h i (omega arith)) in
     omega arith
-
-pub count-le : (n : ℕ) (p : ℕ → Bool) → countBelow n p ≤ n
-unfolding countBelow
-count-le zero p = omega arith
-count-le (suc n) p = let h = count-le n p in more (p n) (countBelow n p) n h
-  where
-    more : (b : Bool) (a n : ℕ) → a ≤ n → one b + a ≤ suc n
-    more true a n h = omega arith
-    more false a n h = omega arith
 
 -- one number less passes
 pub count-less : (n : ℕ) (p q : ℕ → Bool) (a : ℕ) → ((i : ℕ) → p i ≡ q i && not (eqb a i)) → a < n → q a ≡ true → countBelow n p + 1 ≡ countBelow n q

@@ -3,13 +3,14 @@ use Prim.Native.Nat.{ℕ, _<_}
 use mathlib.Core.Path.{_≡_, refl, _∙_, ap}
 use mathlib.Core.Bool.{Bool, true, false, not, _&&_, _||_}
 use mathlib.Core.List.{List, [], _∷_}
+use Rattle.std.proofs.shelf.Tests.{and-from, or-left, or-right}
 use Rattle.atoms.specs.Clauses.{Valuation, makes, makesAt, makesAll, names, hasAtom}
 use Rattle.atoms.specs.Sets.{has, someBelow}
 use Rattle.atoms.specs.declared.clauses.Clause.{Clause}
 use Rattle.atoms.specs.declared.clauses.Entry.{Entry}
 use Rattle.atoms.specs.declared.clauses.Mark.the-variants.{Definition}
-use Rattle.atoms.proofs.Below.{true-false, not-true, some-none, some-here, none-at, some-same}
-use Rattle.lists.proofs.Truth.{and-left, and-right, and-both, or-left, or-right}
+use Rattle.atoms.proofs.Below.{some-none, none-at, some-same}
+use Rattle.lists.proofs.Truth.{and-left, and-right, true-false, not-true}
 
 -- the entry that a read past a list's end gives
 abbrev pub blank : Entry
@@ -18,10 +19,6 @@ blank = record { clause = record { plain = record { bits = 0 }; negated = record
 pub makes-none : (v : Valuation) (c : Clause) → ((i : ℕ) → i < 64 → makesAt v c i ≡ false) → makes v c ≡ false
 unfolding makes
 makes-none v c h = some-none 64 (makesAt v c) h
-
-pub makes-here : (v : Valuation) (c : Clause) (i : ℕ) → i < 64 → makesAt v c i ≡ true → makes v c ≡ true
-unfolding makes
-makes-here v c i l e = some-here 64 (makesAt v c) i l e
 
 pub unmade : (v : Valuation) (c : Clause) → makes v c ≡ false → (i : ℕ) → i < 64 → makesAt v c i ≡ false
 unfolding makes
@@ -39,7 +36,7 @@ makes-like u v c h e = at (makes u c) refl
 pub agree-all : (es : List Entry) (u v : Valuation) → ((i : ℕ) → names es i ≡ true → i < 64 → u i ≡ v i) → makesAll v es ≡ true → makesAll u es ≡ true
 agree-all [] u v h m = refl
 agree-all (e ∷ es) u v h m =
-    and-both (makes u (e .clause)) (makesAll u es)
+    and-from (makes u (e .clause)) (makesAll u es)
     (makes-like u v (e .clause) (λ i l k. one (has (e .clause .plain) i) (has (e .clause .negated) i) (u i) (v i) k (λ n. h i (or-left _ (names es i) n) l)) (and-left (makes v (e .clause)) (makesAll v es) m))
     (agree-all es u v (λ i n l. h i (or-right (hasAtom (e .clause) i) (names es i) n) l) (and-right (makes v (e .clause)) (makesAll v es) m))
   where

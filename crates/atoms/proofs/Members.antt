@@ -69,7 +69,7 @@ has-others (suc k) n (suc i) h =
     has-suc (2 ^ suc k - 1 - n) i ∙ ap (λ (m : ℕ). bit m i) half ∙ has-others k (n / 2) i low
     ∙ (let e = has-suc n i in grind (arith, tells))
 
--- a set below 2 ^ k bit no atom from k on
+-- a set below 2 ^ k has no atom from k on
 pub has-high : (k n i : ℕ) → n < 2 ^ k → k ≤ i → bit n i ≡ false
 has-high zero n i h l = ap (λ (m : ℕ). bit m i) (let e : n ≡ 0 = omega arith in e) ∙ has-none i
 has-high (suc k) n zero h l = absurd (let z : ⊥ = omega arith in z)

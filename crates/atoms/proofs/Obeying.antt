@@ -4,13 +4,14 @@ use mathlib.Core.Path.{_≡_, refl, sym, _∙_, ap}
 use mathlib.Core.Bool.{Bool, true, false, cond, not, _&&_, _||_}
 use lib.Dec.{eqb, ltb}
 use borrow.Author.Tests.{eqb-true}
+use Rattle.std.proofs.shelf.Tests.{or-left}
 use Rattle.atoms.specs.Assuming.{Obeys, clashing, Joined}
 use Rattle.atoms.specs.Clauses.{Valuation, obeysOne}
 use Rattle.atoms.specs.Sets.{has}
 use Rattle.atoms.specs.declared.assumptions.Assumptions.{Assumptions}
 use Rattle.atoms.specs.declared.clauses.Literal.{Literal}
-use Rattle.atoms.proofs.Below.{true-false, some-none}
-use Rattle.lists.proofs.Truth.{and-left, off, or-left}
+use Rattle.atoms.proofs.Below.{some-none}
+use Rattle.lists.proofs.Truth.{and-left, off, true-false}
 
 -- the valuation has in it the atoms that must be in, and none that must be out
 pub record Follows (v : Valuation) (w : Assumptions) : Type 0 where

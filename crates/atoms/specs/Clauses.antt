@@ -18,10 +18,6 @@ Valuation = ℕ → Bool
 abbrev pub obeysOne : Valuation → Literal → Bool
 obeysOne v x = cond (x .holds) (v (x .atom)) (not (v (x .atom)))
 
--- does it make every literal of the list true
-abbrev pub obeys : Valuation → List Literal → Bool
-obeys v = every (obeysOne v)
-
 -- does the valuation make a literal true that the clause has at the atom
 abbrev pub makesAt : Valuation → Clause → ℕ → Bool
 makesAt v c a = (has (c .plain) a && v a) || (has (c .negated) a && not (v a))

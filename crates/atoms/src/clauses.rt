@@ -1,5 +1,4 @@
 ghost use Prim.Native.Nat.{ℕ};
-ghost use mathlib.Core.Bool.{_||_};
 ghost use mathlib.Core.Path.{_≡_};
 ghost use Rattle.atoms.specs.Clauses.{makes, makesAll, names, hasAtom};
 ghost use Rattle.atoms.specs.Sets.{has};

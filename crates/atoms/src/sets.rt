@@ -1,6 +1,6 @@
-ghost use Prim.Native.Nat.{ℕ, _+_, _<_};
+ghost use Prim.Native.Nat.{ℕ, _+_};
 ghost use lib.Dec.{eqb, ltb};
-ghost use mathlib.Core.Bool.{Bool, true, false, not, _&&_, _||_};
+ghost use mathlib.Core.Bool.{true, false, not, _&&_, _||_};
 ghost use mathlib.Core.Path.{_≡_};
 ghost use Rattle.atoms.specs.Bits.{bit};
 ghost use Rattle.atoms.specs.Sets.{has, countBelow, onlyLetters, LowestIn};
@@ -26,14 +26,6 @@ impl AtomSet {
         ensures members { λ r. ⌜ ((i : ℕ) → has r i ≡ bit bits i) ⌝ }
     {
         AtomSet { bits }
-    }
-
-    pub fn bits(self) -> u64
-        ensures written { λ r. ⌜ r ≡ self .bits ⌝ }
-        ensures members { λ r. ⌜ ((i : ℕ) → bit r i ≡ has self i) ⌝ }
-    {
-        let AtomSet { bits: word } = self;
-        word
     }
 
     pub fn member(self, a: u8) -> bool

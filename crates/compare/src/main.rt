@@ -5,13 +5,13 @@
 use std::env;
 use std::io;
 
-mod draws;
+mod random;
 mod rounds;
 mod timing;
 
-use draws::Draw;
-use draws::Shape;
-use rounds::Makes;
+use random::Random;
+use random::Shape;
+use rounds::Oracles;
 use rounds::Tally;
 use rounds::round;
 use timing::time;
@@ -22,8 +22,8 @@ const ROUNDS: u8 = 100;
 const FULL: u16 = 300;
 
 fn compare(rt: &LibcRuntime) -> io::Result<()> {
-    let mut makes = Makes::new();
-    let mut draw = Draw::new(0x9e37_79b9_7f4a_7c15);
+    let mut oracles = Oracles::new();
+    let mut random = Random::new(0x9e37_79b9_7f4a_7c15);
     let mut tally = Tally::new();
     for number in 0..ROUNDS {
         let shape = Shape {
@@ -33,8 +33,8 @@ fn compare(rt: &LibcRuntime) -> io::Result<()> {
         };
         round(
             rt.alloc(),
-            &mut makes,
-            &mut draw,
+            &mut oracles,
+            &mut random,
             u16::from(number % 40),
             shape,
             &mut tally,
@@ -45,7 +45,14 @@ fn compare(rt: &LibcRuntime) -> io::Result<()> {
         atoms: 9,
         literals: 5,
     };
-    round(rt.alloc(), &mut makes, &mut draw, FULL, shape, &mut tally)?;
+    round(
+        rt.alloc(),
+        &mut oracles,
+        &mut random,
+        FULL,
+        shape,
+        &mut tally,
+    )?;
     let Tally {
         questions,
         satisfiable,

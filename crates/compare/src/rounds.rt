@@ -1,6 +1,6 @@
 // The three oracles on the same entries and questions, and what must be so of their answers.
-use crate::draws::Draw;
-use crate::draws::Shape;
+use crate::random::Random;
+use crate::random::Shape;
 use atoms::assumptions::Assumptions;
 use atoms::clauses::Entry;
 use atoms::clauses::Mark;
@@ -52,15 +52,15 @@ impl Tally {
 
 /// The three oracles.
 #[derive(Drop)]
-pub(crate) struct Makes {
+pub(crate) struct Oracles {
     search: Searcher,
     plain: Plain,
     exhaustive: Exhaustive,
 }
 
-impl Makes {
-    pub(crate) fn new() -> Makes {
-        Makes {
+impl Oracles {
+    pub(crate) fn new() -> Oracles {
+        Oracles {
             search: Searcher::new(),
             plain: Plain::new(),
             exhaustive: Exhaustive::new(),
@@ -88,6 +88,13 @@ struct Held {
 }
 
 impl Held {
+    fn new(level: Level, heap: Global) -> Held {
+        Held {
+            level,
+            entries: Vec::new(heap),
+        }
+    }
+
     fn marked(&self, mark: Mark) -> usize {
         let mut count: usize = 0;
         for entry in self.entries.iter() {
@@ -150,15 +157,20 @@ fn stands<O: Oracle>(answer: Solved, held: &Held, under: Assumptions, other: &mu
 }
 
 // Offers the entry to all three.
-fn offer(makes: &mut Makes, held: &mut Held, entry: Entry, tally: &mut Tally) -> io::Result<()> {
+fn offer(
+    oracles: &mut Oracles,
+    held: &mut Held,
+    entry: Entry,
+    tally: &mut Tally,
+) -> io::Result<()> {
     let taken = held.take(entry)?;
     if !taken {
         tally.refused = tally.refused.saturating_add(1);
     }
     let level = held.level;
-    let search = makes.search.take(level, entry);
-    let plain = makes.plain.take(level, entry);
-    let exhaustive = makes.exhaustive.take(level, entry);
+    let search = oracles.search.take(level, entry);
+    let plain = oracles.plain.take(level, entry);
+    let exhaustive = oracles.exhaustive.take(level, entry);
     tally.expect(search == taken);
     tally.expect(plain == taken);
     tally.expect(exhaustive == taken);
@@ -166,10 +178,10 @@ fn offer(makes: &mut Makes, held: &mut Held, entry: Entry, tally: &mut Tally) ->
 }
 
 // Asks all three, and compares.
-fn ask(makes: &mut Makes, held: &Held, under: Assumptions, tally: &mut Tally) {
-    let search = makes.search.solve(held.level, under);
-    let plain = makes.plain.solve(held.level, under);
-    let exhaustive = makes.exhaustive.solve(held.level, under);
+fn ask(oracles: &mut Oracles, held: &Held, under: Assumptions, tally: &mut Tally) {
+    let search = oracles.search.solve(held.level, under);
+    let plain = oracles.plain.solve(held.level, under);
+    let exhaustive = oracles.exhaustive.solve(held.level, under);
     tally.questions = tally.questions.saturating_add(1);
     if under.clashes() {
         tally.contradictory = tally.contradictory.saturating_add(1);
@@ -180,38 +192,44 @@ fn ask(makes: &mut Makes, held: &Held, under: Assumptions, tally: &mut Tally) {
     }
     tally.expect(is_valuation(search) == verdict);
     tally.expect(is_valuation(plain) == verdict);
-    tally.expect(stands(search, held, under, &mut makes.plain));
-    tally.expect(stands(plain, held, under, &mut makes.exhaustive));
-    tally.expect(stands(exhaustive, held, under, &mut makes.search));
+    tally.expect(stands(search, held, under, &mut oracles.plain));
+    tally.expect(stands(plain, held, under, &mut oracles.exhaustive));
+    tally.expect(stands(exhaustive, held, under, &mut oracles.search));
 }
 
-fn ask_some(makes: &mut Makes, held: &Held, draw: &mut Draw, shape: Shape, tally: &mut Tally) {
+fn ask_some(
+    oracles: &mut Oracles,
+    held: &Held,
+    random: &mut Random,
+    shape: Shape,
+    tally: &mut Tally,
+) {
     for literals in 0..5 {
-        let under = draw.assumptions(shape, literals);
-        ask(makes, held, under, tally);
+        let under = random.assumptions(shape, literals);
+        ask(oracles, held, under, tally);
     }
 }
 
 // Draws entries at two levels.
 fn fill(
-    makes: &mut Makes,
+    oracles: &mut Oracles,
     held: &mut Held,
     other: &mut Held,
-    draw: &mut Draw,
+    random: &mut Random,
     entries: u16,
     shape: Shape,
     tally: &mut Tally,
 ) -> io::Result<()> {
     for _ in 0..entries {
-        let mark = if draw.below(2) == 0 {
+        let mark = if random.below(2) == 0 {
             Mark::Definition
         } else {
             Mark::Learnt
         };
-        let entry = draw.entry(shape, mark);
-        offer(makes, held, entry, tally)?;
-        let entry = draw.entry(shape, Mark::Definition);
-        offer(makes, other, entry, tally)?;
+        let entry = random.entry(shape, mark);
+        offer(oracles, held, entry, tally)?;
+        let entry = random.entry(shape, Mark::Definition);
+        offer(oracles, other, entry, tally)?;
     }
     Ok(())
 }
@@ -219,37 +237,39 @@ fn fill(
 /// One round: entries at two levels, questions, forget, one more entry, questions, clear, questions.
 pub(crate) fn round(
     heap: Global,
-    makes: &mut Makes,
-    draw: &mut Draw,
+    oracles: &mut Oracles,
+    random: &mut Random,
     entries: u16,
     shape: Shape,
     tally: &mut Tally,
 ) -> io::Result<()> {
-    let Some(level) = Level::new(draw.below(7)) else {
+    let Some(level) = Level::new(random.below(7)) else {
         return Ok(());
     };
     let Some(deepest) = Level::new(7) else {
         return Ok(());
     };
-    let mut held = Held {
-        level,
-        entries: Vec::new(heap),
-    };
-    let mut other = Held {
-        level: deepest,
-        entries: Vec::new(heap),
-    };
-    fill(makes, &mut held, &mut other, draw, entries, shape, tally)?;
-    ask_some(makes, &held, draw, shape, tally);
-    ask_some(makes, &other, draw, shape, tally);
-    makes.forget();
+    let mut held = Held::new(level, heap);
+    let mut other = Held::new(deepest, heap);
+    fill(
+        oracles,
+        &mut held,
+        &mut other,
+        random,
+        entries,
+        shape,
+        tally,
+    )?;
+    ask_some(oracles, &held, random, shape, tally);
+    ask_some(oracles, &other, random, shape, tally);
+    oracles.forget();
     held.forget(heap)?;
-    ask_some(makes, &held, draw, shape, tally);
-    let entry = draw.entry(shape, Mark::Learnt);
-    offer(makes, &mut held, entry, tally)?;
-    ask_some(makes, &held, draw, shape, tally);
-    makes.clear();
+    ask_some(oracles, &held, random, shape, tally);
+    let entry = random.entry(shape, Mark::Learnt);
+    offer(oracles, &mut held, entry, tally)?;
+    ask_some(oracles, &held, random, shape, tally);
+    oracles.clear();
     held.entries = Vec::new(heap);
-    ask_some(makes, &held, draw, shape, tally);
+    ask_some(oracles, &held, random, shape, tally);
     Ok(())
 }

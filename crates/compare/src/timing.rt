@@ -1,6 +1,6 @@
 // How many questions a second the oracles answer.
-use crate::draws::Draw;
-use crate::draws::Shape;
+use crate::random::Random;
+use crate::random::Shape;
 use atoms::clauses::Mark;
 use atoms::levels::Level;
 use oracle::Oracle;
@@ -14,35 +14,102 @@ use search::SearcherOracle;
 use std::io;
 use std::time::Instant;
 
-// Entries to fill a level with: so many of each mark, and what they are drawn from.
+const QUESTIONS: u32 = 20_000;
+
+// So many random entries of one mark, with `literals` literals each.
 #[derive(Clone, Copy)]
 struct Filling {
-    definitions: (usize, Shape),
-    learnt: (usize, Shape),
+    entries: usize,
+    literals: u8,
 }
 
-fn fill<O: Oracle>(oracle: &mut O, level: Level, draw: &mut Draw, filling: Filling) {
-    for _ in 0..filling.definitions.0 {
-        let entry = draw.entry(filling.definitions.1, Mark::Definition);
-        let _ = oracle.take(level, entry);
-    }
-    for _ in 0..filling.learnt.0 {
-        let entry = draw.entry(filling.learnt.1, Mark::Learnt);
-        let _ = oracle.take(level, entry);
+// A level with the entries, whose clauses and questions are over the lowest `atoms` atoms.
+#[derive(Clone, Copy)]
+struct Measurement {
+    atoms: u8,
+    definitions: Filling,
+    learnt: Filling,
+}
+
+// Levels as full as they get. The plain oracle would count for too long on them.
+const LARGE: [Measurement; 2] = [
+    Measurement {
+        atoms: 64,
+        definitions: Filling {
+            entries: DEFINITIONS,
+            literals: 3,
+        },
+        learnt: Filling {
+            entries: LEARNT,
+            literals: 3,
+        },
+    },
+    Measurement {
+        atoms: 64,
+        definitions: Filling {
+            entries: DEFINITIONS,
+            literals: 3,
+        },
+        learnt: Filling {
+            entries: LEARNT,
+            literals: 2,
+        },
+    },
+];
+
+const SMALL: [Measurement; 2] = [
+    Measurement {
+        atoms: 10,
+        definitions: Filling {
+            entries: 20,
+            literals: 3,
+        },
+        learnt: Filling {
+            entries: 20,
+            literals: 3,
+        },
+    },
+    Measurement {
+        atoms: 10,
+        definitions: Filling {
+            entries: 60,
+            literals: 3,
+        },
+        learnt: Filling {
+            entries: 60,
+            literals: 3,
+        },
+    },
+];
+
+impl Measurement {
+    fn shape(self, literals: u8) -> Shape {
+        Shape {
+            first: 0,
+            atoms: self.atoms,
+            literals,
+        }
     }
 }
 
-// Asks so many questions, each under two random literals, and says how many were satisfiable.
-fn ask<O: Oracle>(
+fn fill<O: Oracle>(
     oracle: &mut O,
     level: Level,
-    draw: &mut Draw,
+    random: &mut Random,
+    mark: Mark,
+    entries: usize,
     shape: Shape,
-    questions: u32,
-) -> u32 {
+) {
+    for _ in 0..entries {
+        let _ = oracle.take(level, random.entry(shape, mark));
+    }
+}
+
+// Asks the questions, each under two random literals, and says how many were satisfiable.
+fn ask<O: Oracle>(oracle: &mut O, level: Level, random: &mut Random, shape: Shape) -> u32 {
     let mut found: u32 = 0;
-    for _ in 0..questions {
-        let under = draw.assumptions(shape, 2);
+    for _ in 0..QUESTIONS {
+        let under = random.assumptions(shape, 2);
         if satisfiable(oracle, level, under) {
             found = found.saturating_add(1);
         }
@@ -54,96 +121,55 @@ fn measure<O: Oracle>(
     rt: &LibcRuntime,
     name: &str,
     oracle: &mut O,
-    filling: Filling,
-    questions: u32,
+    measurement: Measurement,
 ) -> io::Result<()> {
     let Some(level) = Level::new(0) else {
         return Ok(());
     };
-    let mut draw = Draw::new(1);
-    fill(oracle, level, &mut draw, filling);
+    let Measurement {
+        atoms,
+        definitions: Filling { entries, literals },
+        learnt,
+    } = measurement;
+    let (taught, short) = (learnt.entries, learnt.literals);
+    let shape = measurement.shape(literals);
+    let mut random = Random::new(1);
+    oracle.clear();
+    fill(oracle, level, &mut random, Mark::Definition, entries, shape);
+    fill(
+        oracle,
+        level,
+        &mut random,
+        Mark::Learnt,
+        taught,
+        measurement.shape(short),
+    );
     let start = Instant::now(rt)?;
-    let found = ask(oracle, level, &mut draw, filling.definitions.1, questions);
+    let found = ask(oracle, level, &mut random, shape);
     let micros = start.elapsed(rt)?.as_micros().max(1);
-    let rate = u128::from(questions) * 1_000_000 / micros;
+    let rate = u128::from(QUESTIONS) * 1_000_000 / micros;
     println!(
         rt,
-        "{name}: {rate} questions a second, {found} of {questions} satisfiable"
+        "{name}, {atoms} atoms, {entries} + {taught} entries of {literals} and {short} literals: {rate} questions a second, {found} of {QUESTIONS} satisfiable"
     )
 }
 
+fn measure_all<O: Oracle>(
+    rt: &LibcRuntime,
+    name: &str,
+    oracle: &mut O,
+    measurements: &[Measurement],
+) -> io::Result<()> {
+    for measurement in measurements {
+        measure(rt, name, oracle, *measurement)?;
+    }
+    Ok(())
+}
+
 pub(crate) fn time(rt: &LibcRuntime) -> io::Result<()> {
-    let wide = Shape {
-        first: 0,
-        atoms: 64,
-        literals: 3,
-    };
-    let short = Shape {
-        first: 0,
-        atoms: 64,
-        literals: 2,
-    };
-    let small = Shape {
-        first: 0,
-        atoms: 10,
-        literals: 3,
-    };
-    let loose = Filling {
-        definitions: (DEFINITIONS, wide),
-        learnt: (LEARNT, wide),
-    };
-    let tight = Filling {
-        definitions: (DEFINITIONS, wide),
-        learnt: (LEARNT, short),
-    };
-    let few = Filling {
-        definitions: (20, small),
-        learnt: (20, small),
-    };
-    let many = Filling {
-        definitions: (60, small),
-        learnt: (60, small),
-    };
-    measure(
-        rt,
-        "search, 64 atoms, 97 + 128 entries",
-        &mut Searcher::new(),
-        loose,
-        20_000,
-    )?;
-    measure(
-        rt,
-        "search, 64 atoms, 97 + 128 entries, half of them short",
-        &mut Searcher::new(),
-        tight,
-        20_000,
-    )?;
-    measure(
-        rt,
-        "search, 10 atoms, 20 + 20 entries",
-        &mut Searcher::new(),
-        few,
-        20_000,
-    )?;
-    measure(
-        rt,
-        "plain, 10 atoms, 20 + 20 entries",
-        &mut Plain::new(),
-        few,
-        20_000,
-    )?;
-    measure(
-        rt,
-        "search, 10 atoms, 60 + 60 entries",
-        &mut Searcher::new(),
-        many,
-        20_000,
-    )?;
-    measure(
-        rt,
-        "plain, 10 atoms, 60 + 60 entries",
-        &mut Plain::new(),
-        many,
-        20_000,
-    )
+    let mut search = Searcher::new();
+    let mut plain = Plain::new();
+    measure_all(rt, "search", &mut search, &LARGE)?;
+    measure_all(rt, "search", &mut search, &SMALL)?;
+    measure_all(rt, "plain", &mut plain, &SMALL)
 }

@@ -13,10 +13,11 @@ use Rattle.atoms.specs.Sets.{has}
 use Rattle.atoms.specs.declared.assumptions.Assumptions.{Assumptions}
 use Rattle.atoms.specs.declared.clauses.Entry.{Entry}
 use Rattle.atoms.specs.declared.sets.AtomSet.{AtomSet}
-use Rattle.atoms.proofs.Below.{true-false}
 use Rattle.atoms.proofs.Making.{agree-all}
-use Rattle.atoms.proofs.Obeying.{Follows, obeys-follows, follows-obeys}
-use Rattle.oracle.specs.Oracles.{Satisfies, Shut}
+use Rattle.atoms.proofs.Obeying.{obeys-follows, follows-obeys}
+use Rattle.atoms.proofs.Restricting.{restricted, restricted-all}
+use Rattle.lists.proofs.Truth.{true-false}
+use Rattle.oracle.specs.Oracles.{Satisfies, Unsatisfiable}
 use Rattle.exhaustive.specs.Exhausts.{Varies, Made, Ends}
 
 -- with no free atom there is the base alone
@@ -50,28 +51,9 @@ module _ (free base rest : AtomSet) (a : ℕ) (less : (i : ℕ) → has rest i �
       at false q = g v (narrower false outs v so ho q h) m
 
 -- the valuation that is as assumed, but for its own free atoms
-pub complete : (es : List Entry) (w : Assumptions) (free : AtomSet) → ((i : ℕ) → has (w .within) i && has (w .without) i ≡ false) → ((i : ℕ) → has free i ≡ names es i && not (settled w i))
-    → Ends es free (w .within) None → Shut w es
-complete es w free apart e none v o m =
-    none (λ i. cond (has free i) (v i) (has (w .within) i)) (λ i h. ap (λ (b : Bool). cond b (v i) (has (w .within) i)) h)
-    (agree-all es (λ i. cond (has free i) (v i) (has (w .within) i)) v
-    (λ i n _. by (has free i) (names es i) (has (w .within) i) (has (w .without) i) (v i) (e i) n (apart i) (f .ins i) (f .outs i)) m)
-  where
-    f : Follows v w
-    f = obeys-follows v w o
-
-    by : (f n a o v : Bool) → f ≡ (n && not (a || o)) → n ≡ true → a && o ≡ false → (a ≡ true → v ≡ true) → (o ≡ true → v ≡ false) → cond f v a ≡ v
-    by true n a o v e h p i u = refl
-    by false n true o v e h p i u = sym (i refl)
-    by false n false true v e h p i u = sym (u refl)
-    by false n false false v e h p i u = absurd (true-false h (sym e' ∙ refl))
-      where
-        e' : false ≡ n
-        e' = e ∙ yes n
-          where
-            yes : (n : Bool) → (n && true) ≡ n
-            yes true = refl
-            yes false = refl
+pub complete : (es : List Entry) (w : Assumptions) (free : AtomSet) → ((i : ℕ) → has free i ≡ names es i && not (settled w i)) → Ends es free (w .within) None → Unsatisfiable w es
+complete es w free e none v o m =
+    none (restricted es w v) (λ i h. ap (λ (b : Bool). cond b (v i) (has (w .within) i)) (sym (e i) ∙ h)) (restricted-all es w v (obeys-follows v w o) m)
 
 -- what is found obeys
 pub found : (es : List Entry) (w : Assumptions) (free s : AtomSet) → ((i : ℕ) → has (w .within) i && has (w .without) i ≡ false) → ((i : ℕ) → has free i ≡ names es i && not (settled w i))

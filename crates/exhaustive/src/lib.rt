@@ -3,7 +3,6 @@
 //! It tries every valuation of the named atoms that are not assumed, each atom in and out in turn, and asks for each
 //! whether it makes every entry true. It promises no order, and its core is always all that was assumed: an oracle to
 //! compare others with, small enough to be seen to be right.
-ghost use mathlib.Core.Path.{_≡_};
 ghost use Rattle.exhaustive.specs.Exhausts.{Ends, exhaustiveEntries};
 ghost use Rattle.oracle.specs.Oracles.{Solves, Clears, WholeCore};
 use atoms::assumptions::Assumptions;

@@ -6,6 +6,7 @@ use mathlib.Core.List.{List, [], _∷_}
 use native.Mathlib.Numerals.{add-one}
 use native.Mathlib.Omega.{arith}
 use lib.ListN.{length, getD, take}
+use Rattle.std.proofs.shelf.Tests.{and-from, true≢false}
 use Rattle.lists.specs.Lists.{every, some}
 
 pub and-left : (a b : Bool) → (a && b) ≡ true → a ≡ true
@@ -17,22 +18,12 @@ and-right true b e = e
 and-right false true e = refl
 and-right false false e = e
 
-pub and-both : (a b : Bool) → a ≡ true → b ≡ true → (a && b) ≡ true
-and-both true b e f = f
-and-both false b e f = e
+pub true-false : {b : Bool} → b ≡ true → b ≡ false → ⊥
+true-false e f = true≢false (sym e ∙ f)
 
-pub or-left : (a b : Bool) → a ≡ true → (a || b) ≡ true
-or-left true b e = refl
-or-left false true e = refl
-or-left false false e = e
-
-pub or-right : (a b : Bool) → b ≡ true → (a || b) ≡ true
-or-right true b e = refl
-or-right false b e = e
-
-pub or-none : (a b : Bool) → a ≡ false → b ≡ false → (a || b) ≡ false
-or-none true b e f = e
-or-none false b e f = f
+pub not-true : (b : Bool) → (b ≡ true → ⊥) → b ≡ false
+not-true true h = absurd (h refl)
+not-true false h = refl
 
 pub off : (b : Bool) → not b ≡ true → b ≡ false
 off true e = sym e
@@ -61,9 +52,9 @@ or-assoc false b c = refl
 -- elements by place
 every-suc : {A : Type 0} (p : A → Bool) (xs : List A) (i : ℕ) (d : A) → i < length xs → every p (take i xs) ≡ true → p (getD xs i d) ≡ true → every p (take (suc i) xs) ≡ true
 every-suc p [] i d l e h = absurd (let z : ⊥ = omega arith in z)
-every-suc p (x ∷ xs) zero d l e h = and-both (p x) true h refl
+every-suc p (x ∷ xs) zero d l e h = and-from (p x) true h refl
 every-suc p (x ∷ xs) (suc i) d l e h =
-    and-both (p x) (every p (take (suc i) xs)) (and-left (p x) (every p (take i xs)) e)
+    and-from (p x) (every p (take (suc i) xs)) (and-left (p x) (every p (take i xs)) e)
     (every-suc p xs i d (omega arith) (and-right (p x) (every p (take i xs)) e) h)
 
 pub every-take : {A : Type 0} (p : A → Bool) (xs : List A) (i : ℕ) (d : A) → i < length xs → every p (take i xs) ≡ true → p (getD xs i d) ≡ true → every p (take (i + 1) xs) ≡ true

@@ -6,13 +6,13 @@ use Rattle.atoms.specs.Sets.{has}
 use Rattle.atoms.specs.declared.assumptions.Assumptions.{Assumptions}
 use Rattle.atoms.specs.declared.clauses.Entry.{Entry}
 use Rattle.atoms.specs.declared.sets.AtomSet.{AtomSet}
-use Rattle.oracle.specs.Oracles.{Lists, Solves, Satisfies, Shut, Answers}
+use Rattle.oracle.specs.Oracles.{Lists, Solves, Satisfies, Unsatisfiable, Answers}
 use Rattle.oracle.specs.declared.answers.Solved.the-variants.{Valuation as valuation, Core}
 
-pub solves-core : (before after : Lists) (level : ℕ) (w : Assumptions) (es : List Entry) → ((k : ℕ) → after k ≡ before k) → es ≡ before level → Shut w es → Solves before after level w (Core w)
+pub solves-core : (before after : Lists) (level : ℕ) (w : Assumptions) (es : List Entry) → ((k : ℕ) → after k ≡ before k) → es ≡ before level → Unsatisfiable w es → Solves before after level w (Core w)
 solves-core before after level w es same e none = record {
   same = same;
-  answer = subst (λ (ys : List Entry). Answers ys w (Core w)) e (record { part = λ x h. h; shut = none });
+  answer = subst (λ (ys : List Entry). Answers ys w (Core w)) e (record { part = λ x h. h; unsatisfiable = none });
 }
 
 pub solves-valuation : (before after : Lists) (level : ℕ) (w : Assumptions) (es : List Entry) (s : AtomSet) → ((k : ℕ) → after k ≡ before k) → es ≡ before level

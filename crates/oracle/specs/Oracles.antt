@@ -48,13 +48,13 @@ pub record Satisfies (es : List Entry) (w : Assumptions) (v : Valuation) : Type 
   pub made : makesAll v es ≡ true
 
 -- no valuation that obeys the assumptions makes every entry true
-abbrev pub Shut : Assumptions → List Entry → Type 0
-Shut c es = (v : Valuation) → Obeys v c → makesAll v es ≡ true → ⊥
+abbrev pub Unsatisfiable : Assumptions → List Entry → Type 0
+Unsatisfiable c es = (v : Valuation) → Obeys v c → makesAll v es ≡ true → ⊥
 
 -- the core is a part of the assumptions that rules every valuation out
 pub record Refutes (es : List Entry) (w c : Assumptions) : Type 0 where
   pub part : PartOf c w
-  pub shut : Shut c es
+  pub unsatisfiable : Unsatisfiable c es
 
 abbrev pub Answers : List Entry → Assumptions → Solved → Type 0
 Answers es w (valuation v) = Satisfies es w (has v)
@@ -77,7 +77,7 @@ valuationIn (Core c) = None
 
 -- what is found for a level's entries: a valuation, or that there is none
 abbrev pub Finds : List Entry → Assumptions → Option AtomSet → Type 0
-Finds es w r = Cases r (Shut w es) (λ s. Satisfies es w (has s))
+Finds es w r = Cases r (Unsatisfiable w es) (λ s. Satisfies es w (has s))
 
 -- is there a valuation
 abbrev pub Satisfiable : List Entry → Assumptions → Type 0

@@ -28,8 +28,8 @@ use answers::Solved;
 pub trait Oracle {
     ghost entries: { Self → ℕ → List Entry };
 
-    /// Appends the entry at the end of its level's list. Refuses, and leaves all lists alone, exactly when the level
-    /// already holds 97 definitions, or 128 learnt entries, of the entry's mark.
+    /// Appends the entry at the end of its level's list, and answers whether it was taken. It is refused, and all lists
+    /// are left alone, exactly when the level already holds 97 definitions, or 128 learnt entries, of the entry's mark.
     fn take(&mut self, level: Level, entry: Entry) -> bool
         ensures { λ r. ⌜ Taken (entries (now (self .entry))) (entries (now (self .exit))) (level .number) entry r ⌝ };
 
@@ -58,10 +58,13 @@ pub fn satisfiable<O: Oracle>(oracle: &mut O, level: Level, under: Assumptions) 
     }
 }
 
-/// Whether two oracles give the same verdict. They always do where they hold the same entries at the level.
+/// Whether two oracles give the same verdict. They always do where they hold the same entries at the level. No entry of
+/// either is altered.
 pub fn agree<A: Oracle, B: Oracle>(a: &mut A, b: &mut B, level: Level, under: Assumptions) -> bool
     ensures verdict { λ r. ⌜ Decides r (Alike (A·Oracle .entries (now (a .entry)) (level .number)) (B·Oracle .entries (now (b .entry)) (level .number)) under) ⌝ }
     ensures always { λ r. ⌜ (A·Oracle .entries (now (a .entry)) (level .number) ≡ B·Oracle .entries (now (b .entry)) (level .number) → r ≡ true) ⌝ }
+    ensures same_first { λ _. ⌜ ((k : ℕ) → A·Oracle .entries (now (a .exit)) k ≡ A·Oracle .entries (now (a .entry)) k) ⌝ }
+    ensures same_second { λ _. ⌜ ((k : ℕ) → B·Oracle .entries (now (b .exit)) k ≡ B·Oracle .entries (now (b .entry)) k) ⌝ }
 {
     satisfiable(a, level, under) == satisfiable(b, level, under)
 }

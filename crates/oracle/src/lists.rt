@@ -1,4 +1,4 @@
-ghost use Prim.Native.Nat.{ℕ, _≤_};
+ghost use Prim.Native.Nat.{_≤_};
 ghost use lib.ListN.{length, take};
 ghost use mathlib.Core.Path.{_≡_};
 ghost use Rattle.atoms.specs.Clauses.{definitions, learnt};
@@ -13,7 +13,7 @@ pub const DEFINITIONS: usize = 97;
 pub const LEARNT: usize = 128;
 
 /// Room for both.
-pub const SLOTS: usize = 225;
+pub(crate) const SLOTS: usize = DEFINITIONS + LEARNT;
 
 /// The entries of one level, in the order in which they came.
 #[derive(Clone, Copy)]

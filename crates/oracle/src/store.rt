@@ -23,6 +23,8 @@ impl Store {
         }
     }
 
+    /// Appends the entry at the end of its level's list, unless there is no room for one more of its mark, and answers
+    /// whether it was taken.
     pub fn take(&mut self, level: Level, entry: Entry) -> bool
         ensures { λ r. ⌜ Taken (entriesOf (now (self .entry))) (entriesOf (now (self .exit))) (level .number) entry r ⌝ }
     {

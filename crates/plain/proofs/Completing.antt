@@ -1,7 +1,7 @@
 -- Why no valuation is missed.
 use Prim.Native.Nat.{ℕ, _+_, _^_, _<_, _≤_}
 use mathlib.Core.Path.{_≡_, refl, sym, _∙_, ap, subst}
-use mathlib.Core.Bool.{Bool, true, false, not, _&&_, _||_}
+use mathlib.Core.Bool.{Bool, true, false, cond, not, _&&_, _||_}
 use mathlib.Core.List.{List}
 use native.Mathlib.Omega.{arith}
 use lib.Bits.{bitOr, and-le-l, or-lt, or-disjoint}
@@ -16,10 +16,10 @@ use Rattle.atoms.specs.declared.clauses.Entry.{Entry}
 use Rattle.atoms.specs.declared.sets.AtomSet.{AtomSet}
 use Rattle.atoms.proofs.Members.{has-high, has-same, has-nothing, has-and, has-or}
 use Rattle.plain.proofs.Counting.{gathered, gathered-lt, gathered-bit, part-le}
-use Rattle.atoms.proofs.Below.{true-false, not-true}
 use Rattle.atoms.proofs.Making.{agree-all}
 use Rattle.atoms.proofs.Obeying.{Follows}
-use Rattle.lists.proofs.Truth.{and-right, every-at}
+use Rattle.atoms.proofs.Restricting.{restricted, restricted-all}
+use Rattle.lists.proofs.Truth.{and-right, every-at, true-false, not-true}
 use Rattle.plain.specs.Counts.{Part, countedOver, Tried, First}
 
 -- the valuation tried for a part u of the free atoms: what must be in, and u
@@ -30,20 +30,24 @@ candidate w u i = has (w .within) i || bit u i
 abbrev pub Fail : List Entry → Assumptions → ℕ → (ℕ → Type 0) → Type 0
 Fail es w free p = (u : ℕ) → u < 2 ^ 64 → Part u free → p u → makesAll (candidate w u) es ≡ true → ⊥
 
--- a valuation agrees with the one tried for its own free atoms, on the atoms that the entries name
-agreed : (es : List Entry) (w : Assumptions) (free : ℕ) (v : Valuation) → Follows v w → ((i : ℕ) → has (w .within) i && has (w .without) i ≡ false)
-    → ((i : ℕ) → bit free i ≡ countedOver es w i)
-    → (i : ℕ) → names es i ≡ true → i < 64 → candidate w (gathered 64 (λ j. v j && bit free j)) i ≡ v i
-agreed es w free v f apart e i n l =
-    let g = gathered-bit 64 (λ j. v j && bit free j) i l in
-    let x = e i in
-    by (has (w .within) i) (has (w .without) i) (bit free i) (names es i) (v i) (bit (gathered 64 (λ j. v j && bit free j)) i) x n g (f .ins i) (f .outs i)
+-- what is tried for the free atoms of a valuation
+candidate-restricted : (es : List Entry) (w : Assumptions) (free : ℕ) (v : Valuation) → ((i : ℕ) → bit free i ≡ countedOver es w i)
+    → (i : ℕ) → i < 64 → candidate w (gathered 64 (λ j. v j && bit free j)) i ≡ restricted es w v i
+candidate-restricted es w free v e i l = by (has (w .within) i) (has (w .without) i) (names es i) (v i) (bit free i) (bit (gathered 64 (λ j. v j && bit free j)) i) (e i) (gathered-bit 64 (λ j. v j && bit free j) i l)
   where
-    by : (a o r n v g : Bool) → r ≡ (n && not (a || o)) → n ≡ true → g ≡ (v && r) → (a ≡ true → v ≡ true) → (o ≡ true → v ≡ false) → (a || g) ≡ v
-    by true o r n v g x y z i u = sym (i refl)
-    by false true r n v g x y z i u = let h = u refl in grind (arith, tells)
-    by false false r n true g x y z i u = grind (arith, tells)
-    by false false r n false g x y z i u = z
+    by : (a o n v r g : Bool) → r ≡ (n && not (a || o)) → g ≡ (v && r) → (a || g) ≡ cond (n && not (a || o)) v a
+    by true o true v r g x y = refl
+    by true o false v r g x y = refl
+    by false o n true r g x y = y ∙ x ∙ yes (n && not o)
+      where
+        yes : (b : Bool) → b ≡ cond b true false
+        yes true = refl
+        yes false = refl
+    by false o n false r g x y = y ∙ no (n && not o)
+      where
+        no : (b : Bool) → false ≡ cond b false false
+        no true = refl
+        no false = refl
 
 -- the free atoms of a valuation are a part of the free atoms
 gathered-part : (free : ℕ) (v : Valuation) → Part (gathered 64 (λ j. v j && bit free j)) free
@@ -53,12 +57,10 @@ gathered-part free v i h = at (ltb i 64) refl
     at true q = and-right (v i) (bit free i) (sym (gathered-bit 64 (λ j. v j && bit free j) i (let z : i < 64 = grind (arith, tells) in z)) ∙ h)
     at false q = absurd (true-false h (has-high 64 _ i (gathered-lt 64 (λ j. v j && bit free j)) (let z : 64 ≤ i = grind (arith, tells) in z)))
 
-pub complete : (es : List Entry) (w : Assumptions) (free : ℕ) → ((i : ℕ) → has (w .within) i && has (w .without) i ≡ false)
-    → ((i : ℕ) → bit free i ≡ countedOver es w i)
-    → Fail es w free (λ u. Unit {0}) → (v : Valuation) → Follows v w → makesAll v es ≡ true → ⊥
-complete es w free apart e fail v f m =
+pub complete : (es : List Entry) (w : Assumptions) (free : ℕ) → ((i : ℕ) → bit free i ≡ countedOver es w i) → Fail es w free (λ u. Unit {0}) → (v : Valuation) → Follows v w → makesAll v es ≡ true → ⊥
+complete es w free e fail v f m =
     fail (gathered 64 (λ j. v j && bit free j)) (gathered-lt 64 (λ j. v j && bit free j)) (gathered-part free v) tt
-    (agree-all es (candidate w (gathered 64 (λ j. v j && bit free j))) v (agreed es w free v f apart e) m)
+    (agree-all es (candidate w (gathered 64 (λ j. v j && bit free j))) (restricted es w v) (λ i _ l. candidate-restricted es w free v e i l) (restricted-all es w v f m))
 
 -- the valuation that the code tries follows what is assumed
 pub counted-follows : (es : List Entry) (w : Assumptions) (free u : ℕ) (s : AtomSet) → ((i : ℕ) → has (w .within) i && has (w .without) i ≡ false)
@@ -129,19 +131,10 @@ first es w free v s lw ls lv e p q m fail = record {
     out true false f h k = refl
     out false false f h k = refl
 
-    by : (a o n u f g : Bool) → f ≡ (n && not (a || o)) → g ≡ (u && f) → ((n && not (a || o)) ≡ false → u ≡ a) → u ≡ (a || g)
-    by true o n u f g x y k = k (off n o)
-      where
-        off : (n o : Bool) → (n && not (true || o)) ≡ false
-        off true o = refl
-        off false o = refl
-    by false true n u f g x y k = let z = k (off n) in grind (arith, tells)
-      where
-        off : (n : Bool) → (n && not true) ≡ false
-        off true = refl
-        off false = refl
-    by false false true u f g x y k = grind (arith, tells)
-    by false false false u f g x y k = let z = k refl in grind (arith, tells)
+    -- a tried valuation is restricted already
+    own : (c u a : Bool) → (c ≡ false → u ≡ a) → u ≡ cond c u a
+    own true u a k = refl
+    own false u a k = k refl
 
     -- a tried valuation is made of what must be in and its own free atoms
     again : (u : ℕ) → Tried es w u → (i : ℕ) → bit u i ≡ candidate w (part u) i
@@ -151,9 +144,7 @@ first es w free v s lw ls lv e p q m fail = record {
         high x a g e f h = grind (arith, tells)
 
         at : (b : Bool) → ltb i 64 ≡ b → bit u i ≡ candidate w (part u) i
-        at true z =
-            by (has (w .within) i) (has (w .without) i) (names es i) (bit u i) (bit free i) (bit (part u) i) (e i)
-            (gathered-bit 64 (λ j. bit u j && bit free j) i (let y : i < 64 = grind (arith, tells) in y)) (t .others i)
+        at true z = own (countedOver es w i) (bit u i) (has (w .within) i) (t .others i) ∙ sym (candidate-restricted es w free (bit u) e i (let y : i < 64 = grind (arith, tells) in y))
         at false z =
             let l : 64 ≤ i = grind (arith, tells) in
             high (bit u i) (has (w .within) i) (bit (part u) i) (has-high 64 u i (t .small) l) (has-high 64 (w .within .bits) i lw l)

@@ -10,7 +10,7 @@ use Rattle.atoms.specs.Sets.{has}
 use Rattle.atoms.specs.declared.assumptions.Assumptions.{Assumptions}
 use Rattle.atoms.specs.declared.clauses.Entry.{Entry}
 use Rattle.atoms.specs.declared.sets.AtomSet.{AtomSet}
-use Rattle.oracle.specs.Oracles.{Shut}
+use Rattle.oracle.specs.Oracles.{Unsatisfiable}
 use Rattle.std.specs.declared.option.Option.{Option}
 use Rattle.std.specs.declared.option.Option.the-variants.{Some, None}
 
@@ -42,4 +42,4 @@ pub record First (es : List Entry) (w : Assumptions) (v : ℕ) : Type 0 where
 -- The answer is the first of them; where no valuation obeys and makes every entry true there is none.
 abbrev pub Counted : List Entry → Assumptions → Option AtomSet → Type 0
 Counted es w (Some s) = First es w (s .bits)
-Counted es w None = Shut w es
+Counted es w None = Unsatisfiable w es

@@ -6,7 +6,6 @@
 //! finds. It misses none, since a valuation's entries depend only on the named atoms (`complete` of
 //! `proofs/Completing.antt`).
 ghost use mathlib.Core.Path.{_≡_};
-ghost use Prim.Native.Nat.{ℕ, _^_, _<_, _≤_};
 ghost use Rattle.oracle.specs.Oracles.{Finds, Solves, Clears, WholeCore, valuationIn};
 ghost use Rattle.plain.specs.Counts.{Part, Counted, NextPart};
 ghost use Rattle.plain.specs.Plains.{plainEntries};

@@ -11,9 +11,10 @@ use Rattle.atoms.specs.Sets.{has}
 use Rattle.atoms.specs.declared.assumptions.Assumptions.{Assumptions}
 use Rattle.atoms.specs.declared.clauses.Clause.{Clause}
 use Rattle.atoms.specs.declared.clauses.Literal.{Literal}
-use Rattle.atoms.proofs.Below.{true-false}
+use Rattle.atoms.specs.declared.sets.AtomSet.{AtomSet}
 use Rattle.atoms.proofs.Making.{makes-none, unmade}
 use Rattle.atoms.proofs.Obeying.{Follows}
+use Rattle.lists.proofs.Truth.{true-false}
 use Rattle.search.specs.Judging.{trueAt, openAt, Conflicts, Forces, Leaves}
 use Rattle.search.specs.Searches.{Apart, Full}
 
@@ -59,16 +60,16 @@ leaves-true w c apart full k = at (makes (has (w .within)) c) refl
     untrue p n true o e m = grind (arith, tells)
     untrue p n false o e m = grind (arith, tells)
 
-    shut : (b s : Bool) → s ≡ true → b && not s ≡ false
-    shut true s e = ap not e
-    shut false s e = refl
+    decided : (b s : Bool) → s ≡ true → b && not s ≡ false
+    decided true s e = ap not e
+    decided false s e = refl
 
     at : (b : Bool) → makes (has (w .within)) c ≡ b → makes (has (w .within)) c ≡ true
     at true q = q
     at false q = absurd (k .conflict (record {
       untrue = λ a l. untrue (has (c .plain) a) (has (c .negated) a) (has (w .within) a) (has (w .without) a) (apart a) (unmade (has (w .within)) c q a l);
-      plain = λ a l. shut (has (c .plain) a) (settled w a) (full a l);
-      negated = λ a l. shut (has (c .negated) a) (settled w a) (full a l);
+      plain = λ a l. decided (has (c .plain) a) (settled w a) (full a l);
+      negated = λ a l. decided (has (c .negated) a) (settled w a) (full a l);
     }))
 
 -- how the code comes to each: a set with no member below 64 is empty
@@ -94,17 +95,23 @@ leaves-both w c p n = record { conflict = λ k. p (k .plain); forced = λ x k. b
     by true x k e = n (λ a l. k .negated a l ∙ none (not (x .holds)) x a (ap not e))
     by false x k e = p (λ a l. k .plain a l ∙ none (x .holds) x a e)
 
--- more than one undecided literal, all of one sign
-pub leaves-many-plain : (w : Assumptions) (c : Clause) → (((a : ℕ) → a < 64 → openAt w (c .plain) a ≡ false) → ⊥) → ((y : ℕ) → y < 64 → ((a : ℕ) → a < 64 → openAt w (c .plain) a ≡ eqb y a) → ⊥) → Leaves w c
-leaves-many-plain w c p many = record { conflict = λ k. p (k .plain); forced = λ x k. by (x .holds) x k refl }
-  where
-    by : (h : Bool) (x : Literal) → Forces w c x → x .holds ≡ h → ⊥
-    by true x k e = many (x .atom) (k .small) (λ a l. k .plain a l ∙ ap (λ (y : Bool). y && eqb (x .atom) a) e)
-    by false x k e = p (λ a l. k .plain a l ∙ ap (λ (y : Bool). y && eqb (x .atom) a) e)
+-- the atoms that the clause has with the sign
+abbrev pub signed : Bool → Clause → AtomSet
+signed b c = cond b (c .plain) (c .negated)
 
-pub leaves-many-negated : (w : Assumptions) (c : Clause) → (((a : ℕ) → a < 64 → openAt w (c .negated) a ≡ false) → ⊥) → ((y : ℕ) → y < 64 → ((a : ℕ) → a < 64 → openAt w (c .negated) a ≡ eqb y a) → ⊥) → Leaves w c
-leaves-many-negated w c n many = record { conflict = λ k. n (k .negated); forced = λ x k. by (x .holds) x k refl }
+-- more than one undecided literal of one sign
+pub leaves-many : (b : Bool) (w : Assumptions) (c : Clause) → (((a : ℕ) → a < 64 → openAt w (signed b c) a ≡ false) → ⊥)
+    → ((y : ℕ) → y < 64 → ((a : ℕ) → a < 64 → openAt w (signed b c) a ≡ eqb y a) → ⊥) → Leaves w c
+leaves-many b w c some many = record { conflict = λ k. some (closed b k); forced = λ x k. by (cond b (x .holds) (not (x .holds))) x k refl }
   where
-    by : (h : Bool) (x : Literal) → Forces w c x → x .holds ≡ h → ⊥
-    by true x k e = n (λ a l. k .negated a l ∙ ap (λ (y : Bool). not y && eqb (x .atom) a) e)
-    by false x k e = many (x .atom) (k .small) (λ a l. k .negated a l ∙ ap (λ (y : Bool). not y && eqb (x .atom) a) e)
+    closed : (b : Bool) → Conflicts w c → (a : ℕ) → a < 64 → openAt w (signed b c) a ≡ false
+    closed true k = k .plain
+    closed false k = k .negated
+
+    sole : (b : Bool) (x : Literal) → Forces w c x → (a : ℕ) → a < 64 → openAt w (signed b c) a ≡ cond b (x .holds) (not (x .holds)) && eqb (x .atom) a
+    sole true x k = k .plain
+    sole false x k = k .negated
+
+    by : (h : Bool) (x : Literal) → Forces w c x → cond b (x .holds) (not (x .holds)) ≡ h → ⊥
+    by true x k e = many (x .atom) (k .small) (λ a l. sole b x k a l ∙ ap (λ (y : Bool). y && eqb (x .atom) a) e)
+    by false x k e = some (λ a l. sole b x k a l ∙ ap (λ (y : Bool). y && eqb (x .atom) a) e)

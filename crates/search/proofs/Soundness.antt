@@ -1,10 +1,11 @@
 -- Why the answers of the search are right.
 use Prim.Native.Nat.{ℕ, _<_}
 use mathlib.Core.Path.{_≡_, refl, sym, _∙_, ap, subst}
-use mathlib.Core.Bool.{Bool, true, false, not, _&&_, _||_}
+use mathlib.Core.Bool.{Bool, true, false, cond, not, _&&_, _||_}
 use mathlib.Core.List.{List, _∷_}
 use native.Mathlib.Omega.{arith}
 use lib.Dec.{eqb, ltb}
+use Rattle.std.proofs.shelf.Tests.{and-from, or-left}
 use Rattle.std.proofs.shelf.Ways.{tells}
 use Rattle.std.specs.declared.option.Option.{Option}
 use Rattle.std.specs.declared.option.Option.the-variants.{Some, None}
@@ -15,11 +16,11 @@ use Rattle.atoms.specs.declared.assumptions.Assumptions.{Assumptions}
 use Rattle.atoms.specs.declared.clauses.Entry.{Entry}
 use Rattle.atoms.specs.declared.clauses.Literal.{Literal}
 use Rattle.atoms.specs.declared.sets.AtomSet.{AtomSet}
-use Rattle.atoms.proofs.Below.{true-false, count-less}
-use Rattle.atoms.proofs.Making.{agree-all}
+use Rattle.atoms.proofs.Below.{count-less}
 use Rattle.atoms.proofs.Obeying.{Follows, obeys-follows, follows-obeys, clash-never, follows-less, follows-more}
-use Rattle.lists.proofs.Truth.{and-left, and-right, and-both, or-left}
-use Rattle.oracle.specs.Oracles.{Finds, Satisfies, Shut}
+use Rattle.atoms.proofs.Restricting.{restricted, restricted-all}
+use Rattle.lists.proofs.Truth.{and-left, and-right, true-false}
+use Rattle.oracle.specs.Oracles.{Finds, Satisfies, Unsatisfiable}
 use Rattle.search.specs.Judging.{FirstJudged, none, here, later, Judged, Forces}
 use Rattle.search.specs.Searches.{Searched, clash, conflict, follow, full, tryIn, tryOut, Started, SearchedFrom, Apart, Full, inside, outside, undecidedIn}
 use Rattle.search.specs.declared.status.Status.{Status}
@@ -58,7 +59,7 @@ first-tells {w = w} (later {e = e} {es = es} {s = s} j r) = at s (first-tells r)
     at : (s : Status) → Tells w es s → Tells w (e ∷ es) s
     at Conflict t = λ v f m. t v f (and-right (makes v (e .clause)) (makesAll v es) m)
     at (Forced x) t = λ v f m. t v f (and-right (makes v (e .clause)) (makesAll v es) m)
-    at Open t = λ apart all. and-both (makes (has (w .within)) (e .clause)) (makesAll (has (w .within)) es) (leaves-true w (e .clause) apart all j) (t apart all)
+    at Open t = λ apart all. and-from (makes (has (w .within)) (e .clause)) (makesAll (has (w .within)) es) (leaves-true w (e .clause) apart all j) (t apart all)
 
 -- the literal that the entries force is of an undecided atom
 pub first-forces : (w : Assumptions) (es : List Entry) (x : Literal) → FirstJudged w es (Forced x) → (x .atom < 64) × (settled w (x .atom) ≡ false)
@@ -85,7 +86,7 @@ found-forced es w u x (Some s) j t f = found-less es w u x s j f
 found-forced es w u x None j t f = λ v o m. let g = obeys-follows v w o in f v (follows-obeys v u (follows-more w u x v j g (t v g m))) m
 
 -- where both trials of an atom find nothing there is nothing
-found-both : (es : List Entry) (w u t : Assumptions) (a : ℕ) (r : Option AtomSet) → Joined w (inside a) u → Joined w (outside a) t → Shut u es → Finds es t r → Finds es w r
+found-both : (es : List Entry) (w u t : Assumptions) (a : ℕ) (r : Option AtomSet) → Joined w (inside a) u → Joined w (outside a) t → Unsatisfiable u es → Finds es t r → Finds es w r
 found-both es w u t a (Some s) ju jt f g = found-less es w t (outside a) s jt g
 found-both es w u t a None ju jt f g = λ v o m. at v (obeys-follows v w o) m (v a) refl
   where
@@ -114,35 +115,29 @@ searched-finds {es = es} (tryIn {w = w} {u = u} {v = v} a apart j low k s) = fou
 searched-finds {es = es} (tryOut {w = w} {u = u} {t = t} {r = r} a apart j low k s l n) = found-both es w u t a r k l (searched-finds s) (searched-finds n)
 
 -- where the atoms that no entry names are out too, unless they must be in, no verdict is lost
-spared : (es : List Entry) (under w : Assumptions) → Started es under w → Shut w es → Shut under es
-spared es under w st shut v o m =
-    shut (λ i. v i && not (spare i)) (follows-obeys _ w (record {
-      ins = λ i h. stays (has (under .within) i) (names es i) (ltb i 64) (v i) (f .ins i (sym (st .within i) ∙ h)) (sym (st .within i) ∙ h);
-      outs = λ i h. goes (has (under .without) i) (spare i) (v i) (sym (st .without i) ∙ h) (f .outs i);
+spared : (es : List Entry) (under w : Assumptions) → Started es under w → Unsatisfiable w es → Unsatisfiable under es
+spared es under w st never v o m =
+    never (restricted es under v) (follows-obeys _ w (record {
+      ins = λ i h. stays (names es i) (has (under .within) i) (has (under .without) i) (v i) (sym (st .within i) ∙ h);
+      outs = λ i h. goes (names es i) (has (under .within) i) (has (under .without) i) (ltb i 64) (v i) (sym (st .without i) ∙ h) (f .ins i) (f .outs i);
     }))
-    (agree-all es (λ i. v i && not (spare i)) v (λ i n l. kept (has (under .within) i) (names es i) (ltb i 64) (v i) n) m)
+    (restricted-all es under v f m)
   where
     f : Follows v under
     f = obeys-follows v under o
 
-    spare : ℕ → Bool
-    spare i = ltb i 64 && not (names es i || has (under .within) i)
+    stays : (n a o v : Bool) → a ≡ true → cond (n && not (a || o)) v a ≡ true
+    stays true true o v e = refl
+    stays false true o v e = refl
+    stays n false o v e = absurd (true-false e refl)
 
-    stays : (a n b v : Bool) → v ≡ true → a ≡ true → (v && not (b && not (n || a))) ≡ true
-    stays a true b v e h = grind (arith, tells)
-    stays a false b v e h = grind (arith, tells)
-
-    goes : (o s v : Bool) → (o || s) ≡ true → (o ≡ true → v ≡ false) → (v && not s) ≡ false
-    goes true s v h g = ap (λ (b : Bool). b && not s) (g refl)
-    goes false true true h g = refl
-    goes false true false h g = refl
-    goes false false v h g = absurd (true-false h refl)
-
-    kept : (a n b v : Bool) → n ≡ true → (v && not (b && not (n || a))) ≡ v
-    kept a true true true h = refl
-    kept a true false true h = refl
-    kept a true b false h = refl
-    kept a false b v h = absurd (true-false h refl)
+    goes : (n a o l v : Bool) → (o || (l && not (n || a))) ≡ true → (a ≡ true → v ≡ true) → (o ≡ true → v ≡ false) → cond (n && not (a || o)) v a ≡ false
+    goes n true true l v h i u = absurd (true-false (i refl) (u refl))
+    goes true false true l v h i u = refl
+    goes false false true l v h i u = refl
+    goes true a false l v h i u = absurd (true-false (and-right l false h) refl)
+    goes false true false l v h i u = absurd (true-false (and-right l false h) refl)
+    goes false false false l v h i u = refl
 
 started-less : (es : List Entry) (under w : Assumptions) → Started es under w → (v : Valuation) → Obeys v w → Obeys v under
 started-less es under w st v o =

@@ -1,7 +1,4 @@
-ghost use Prim.Native.Nat.{ℕ, _<_};
-ghost use lib.Dec.{eqb};
-ghost use mathlib.Core.Path.{_≡_};
-ghost use Rattle.atoms.specs.Sets.{has};
+ghost use Prim.Native.Nat.{ℕ};
 ghost use Rattle.search.specs.Judging.{Judged, FirstJudged, Sole};
 ghost use Rattle.std.specs.Options.{Cases as BySome};
 use crate::status::Status;

@@ -5,8 +5,6 @@
 //! record of the atoms that are in and out so far, and a guard puts it back at the end of every trial. The relation
 //! `Searched` of `specs/Searches.antt` says which answer this order of trial gives; that such an answer is right is the
 //! lemma `searched-finds` of `proofs/Soundness.antt`.
-ghost use Prim.Native.Nat.{ℕ};
-ghost use mathlib.Core.Path.{_≡_};
 ghost use Rattle.oracle.specs.Oracles.{Solves, Clears, WholeCore, valuationIn};
 ghost use Rattle.search.specs.Searches.{SearchedFrom};
 ghost use Rattle.search.specs.Searchers.{searcherEntries};
@@ -19,7 +17,7 @@ use oracle::store::Store;
 
 mod judging;
 mod searching;
-pub mod status;
+mod status;
 
 use searching::search;
 use searching::start;

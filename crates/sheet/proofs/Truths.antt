@@ -19,7 +19,7 @@ use Rattle.modal.proofs.Built.{form-at, placed}
 use Rattle.atoms.specs.Sets.{has}
 use Rattle.atoms.specs.declared.sets.AtomSet.{AtomSet}
 use Rattle.sheet.specs.Sheets.{noRow, successorsOf}
-use Rattle.sheet.specs.Evaluation.{looksAt, rowTrue, trueAt, TrueRows, OverRows, SeesRow, Sees}
+use Rattle.sheet.specs.Evaluation.{looksAt, rowTrue, trueAt, TrueRows, OverRows, SeesRow}
 use Rattle.sheet.specs.declared.evaluation.Over.{Over}
 use Rattle.sheet.specs.declared.row.SheetRow.{SheetRow}
 use Rattle.sheet.proofs.Trees.{successors-more}

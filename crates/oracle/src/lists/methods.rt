@@ -52,6 +52,7 @@ impl EntryList {
         }
     }
 
+    // Appends the entry, which is always taken: the caller has seen that there is room.
     fn push(&mut self, entry: Entry)
         requires { ⌜ room (entry .mark) (heldOf (now self)) ≡ true ⌝ }
         ensures { λ _. ⌜ heldOf (now (self .exit)) ≡ heldOf (now (self .entry)) ++ entry ∷ [] ⌝ }
@@ -64,6 +65,7 @@ impl EntryList {
         }
     }
 
+    // Appends the entry if there is room for one more of its mark, and answers whether it was taken.
     pub(crate) fn take(&mut self, entry: Entry) -> bool
         ensures items { λ r. ⌜ heldOf (now (self .exit)) ≡ cond r (heldOf (now (self .entry)) ++ entry ∷ []) (heldOf (now (self .entry))) ⌝ }
         ensures when { λ r. ⌜ r ≡ room (entry .mark) (heldOf (now (self .entry))) ⌝ }

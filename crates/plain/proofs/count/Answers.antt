@@ -10,22 +10,21 @@ use Rattle.atoms.specs.declared.assumptions.Assumptions.{Assumptions}
 use Rattle.atoms.specs.declared.clauses.Entry.{Entry}
 use Rattle.atoms.specs.declared.sets.AtomSet.{AtomSet}
 use Rattle.atoms.proofs.Members.{has-none}
-use Rattle.atoms.proofs.Below.{true-false}
 use Rattle.atoms.proofs.Making.{blank}
 use Rattle.atoms.proofs.Obeying.{Follows, obeys-follows, follows-obeys, clash-never}
-use Rattle.lists.proofs.Truth.{every-take}
-use Rattle.oracle.specs.Oracles.{Shut}
+use Rattle.lists.proofs.Truth.{every-take, true-false}
+use Rattle.oracle.specs.Oracles.{Unsatisfiable}
 use Rattle.plain.specs.Counts.{Part, countedOver, NextPart}
 use Rattle.plain.proofs.Counting.{part-le}
 use Rattle.plain.proofs.Completing.{complete, counted-follows, failed-here, fail-more, fail-all, first}
 use Rattle.plain.proofs.count.Needs as need
 
-shut : (w : Assumptions) (es : List Entry) → ((v : Valuation) → Follows v w → makesAll v es ≡ true → ⊥) → Shut w es
-shut w es h v o m = h v (obeys-follows v w o) m
+unsatisfiable : (w : Assumptions) (es : List Entry) → ((v : Valuation) → Follows v w → makesAll v es ≡ true → ⊥) → Unsatisfiable w es
+unsatisfiable w es h v o m = h v (obeys-follows v w o) m
 
 pub returns-then-clashes : need.returns-then-clashes
 returns-then-clashes c =
-    let k : Shut (c .args .under) (c .args .entries .now) =
+    let k : Unsatisfiable (c .args .under) (c .args .entries .now) =
     λ v o m. clash-never (c .args .under) (sym (c .clashes .ensures .answer) ∙ c .if-clashes .taken) v (obeys-follows v (c .args .under) o) in
     record { finds = k; order = k }
 
@@ -78,8 +77,8 @@ returns-in-None c =
     let v : AtomSet = c .next .counted in
     let f = free-is (c .args .entries .now) (c .args .under) (c .named .result) (c .difference .result) (c .difference-free .result) (c .named .ensures) (c .difference .ensures) (c .difference-free .ensures) in
     let last : v .bits ≡ c .difference-free .result .bits = ap (λ (s : AtomSet). s .bits) (sym (c .loop-entry .inv .1)) ∙ c .in-None .ensures tt in
-    let k : Shut (c .args .under) (c .args .entries .now) =
-    shut (c .args .under) (c .args .entries .now) (complete (c .args .entries .now) (c .args .under) (c .difference-free .result .bits) (c .clashes .ensures .apart (c .if-clashes .left)) f
+    let k : Unsatisfiable (c .args .under) (c .args .entries .now) =
+    unsatisfiable (c .args .under) (c .args .entries .now) (complete (c .args .entries .now) (c .args .under) (c .difference-free .result .bits) f
     (fail-all (c .args .entries .now) (c .args .under) (c .difference-free .result .bits) (v .bits) last (c .next .inv .1)
     (failed-here (c .args .entries .now) (c .args .under) (v .bits) (c .union-valuation .result) (c .loop-entry .entry-index) blank (c .loop-entry-test .taken)
     (c .union-valuation .ensures) (c .if-not-holds .ensures tt)))) in

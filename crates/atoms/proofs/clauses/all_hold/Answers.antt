@@ -3,9 +3,8 @@ use Rattle.std.proofs.shelf.Lists.{take-all}
 use Rattle.atoms.specs.Clauses.{makes, makesAll}
 use Rattle.atoms.specs.Sets.{has}
 use Rattle.atoms.specs.declared.clauses.Entry.{Entry}
-use Rattle.atoms.proofs.Below.{true-false, not-true}
 use Rattle.atoms.proofs.Making.{blank}
-use Rattle.lists.proofs.Truth.{every-take, every-at}
+use Rattle.lists.proofs.Truth.{every-take, every-at, true-false, not-true}
 use Rattle.atoms.proofs.clauses.all_hold.Needs as need
 
 pub returns-then-not-holds : need.returns-then-not-holds

@@ -23,7 +23,7 @@ returns-then-clashes c =
       core = refl;
       solves = record {
         same = λ k. refl;
-        answer = record { part = λ x h. h; shut = λ v o m. clash-never (c .args .under) (sym (c .clashes .ensures .answer) ∙ c .if-clashes .taken) v (obeys-follows v (c .args .under) o) };
+        answer = record { part = λ x h. h; unsatisfiable = λ v o m. clash-never (c .args .under) (sym (c .clashes .ensures .answer) ∙ c .if-clashes .taken) v (obeys-follows v (c .args .under) o) };
       };
     }
 
@@ -32,7 +32,7 @@ returns-in-None c =
     record {
       core = refl;
       solves = solves-core _ _ _ (c .args .under) (c .entries-entries .result .now) (λ k. refl) (c .entries-entries .ensures)
-          (complete (c .entries-entries .result .now) (c .args .under) (c .difference-free .result) (c .clashes .ensures .apart (c .if-clashes .left))
+          (complete (c .entries-entries .result .now) (c .args .under) (c .difference-free .result)
           (free-is (c .entries-entries .result .now) (c .args .under) (c .named .result) (c .union-decided .result) (c .difference-free .result) (c .named .ensures) (c .union-decided .ensures) (c .difference-free .ensures))
           (c .in-None .ensures tt));
     }

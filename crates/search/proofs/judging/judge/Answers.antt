@@ -11,7 +11,7 @@ use Rattle.atoms.specs.declared.clauses.Clause.{Clause}
 use Rattle.atoms.specs.declared.sets.AtomSet.{AtomSet}
 use Rattle.atoms.proofs.Members.{has-high}
 use Rattle.search.specs.Judging.{trueAt, openAt, Sole}
-use Rattle.search.proofs.Clausewise.{all-out, leaves-met, leaves-both, leaves-many-plain, leaves-many-negated}
+use Rattle.search.proofs.Clausewise.{all-out, leaves-met, leaves-both, leaves-many}
 use Rattle.search.proofs.judging.judge.Needs as need
 
 -- the set of the atoms of true literals, and a set of undecided atoms, as the code computes them
@@ -70,14 +70,14 @@ returns-in-Some-sole c =
 pub returns-in-rest : need.returns-in-rest
 returns-in-rest c =
     let p = open-is (c .args .trail) (c .args .clause .plain) (c .union-decided .result) (c .difference-plain .result) (c .union-decided .ensures) (c .difference-plain .ensures) in
-    leaves-many-plain (c .args .trail) (c .args .clause)
+    leaves-many true (c .args .trail) (c .args .clause)
     (some-open (c .args .trail) (c .args .clause .plain) (c .difference-plain .result) (c .is-empty-then-is-empty .result) (omega arith) p (c .is-empty-then-is-empty .ensures .some) (c .if-is-empty-2 .left))
     (λ y l h. c .in-rest .ensures tt y (sole-low (c .args .trail) (c .args .clause .plain) (c .difference-plain .result) (omega arith) p y l h))
 
 pub returns-in-rest-sole : need.returns-in-rest-sole
 returns-in-rest-sole c =
     let n = open-is (c .args .trail) (c .args .clause .negated) (c .union-decided .result) (c .difference-negated .result) (c .union-decided .ensures) (c .difference-negated .ensures) in
-    leaves-many-negated (c .args .trail) (c .args .clause)
+    leaves-many false (c .args .trail) (c .args .clause)
     (some-open (c .args .trail) (c .args .clause .negated) (c .difference-negated .result) (c .is-empty-2 .result) (omega arith) n (c .is-empty-2 .ensures .some) (c .if-is-empty .left))
     (λ y l h. c .in-rest-sole .ensures tt y (sole-low (c .args .trail) (c .args .clause .negated) (c .difference-negated .result) (omega arith) n y l h))
 

@@ -1,6 +1,6 @@
 use mathlib.Core.Path.{refl, _∙_}
 use borrow.Author.Tests.{eq-eqb}
-use Rattle.atoms.proofs.Below.{true-false}
+use Rattle.lists.proofs.Truth.{true-false}
 use Rattle.search.proofs.judging.sole.Needs as need
 
 pub returns-in-rest : need.returns-in-rest

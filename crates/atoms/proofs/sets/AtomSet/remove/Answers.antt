@@ -7,8 +7,9 @@ use lib.Dec.{eqb}
 use Rattle.std.proofs.shelf.Ways.{tells}
 use Rattle.atoms.specs.Bits.{bit}
 use Rattle.atoms.proofs.Members.{has-remove, has-high}
-use Rattle.atoms.proofs.Below.{count-less, true-false}
+use Rattle.atoms.proofs.Below.{count-less}
 use Rattle.atoms.proofs.sets.AtomSet.remove.Needs as need
+use Rattle.lists.proofs.Truth.{true-false}
 
 pub returns-then-a-lt-ATOMS : need.returns-then-a-lt-ATOMS
 returns-then-a-lt-ATOMS c =

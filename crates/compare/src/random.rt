@@ -1,5 +1,4 @@
 // Random clauses and assumptions.
-ghost use Prim.Native.Nat.{_<_};
 use atoms::assumptions::Assumptions;
 use atoms::clauses::Clause;
 use atoms::clauses::Entry;
@@ -9,7 +8,7 @@ use atoms::sets::AtomSet;
 
 /// A generator of random numbers (xorshift).
 #[derive(Drop)]
-pub(crate) struct Draw {
+pub(crate) struct Random {
     state: u64,
 }
 
@@ -21,9 +20,9 @@ pub(crate) struct Shape {
     pub(crate) literals: u8,
 }
 
-impl Draw {
-    pub(crate) fn new(seed: u64) -> Draw {
-        Draw { state: seed | 1 }
+impl Random {
+    pub(crate) fn new(seed: u64) -> Random {
+        Random { state: seed | 1 }
     }
 
     fn number(&mut self) -> u64 {
