@@ -23,6 +23,7 @@ impl Level {
         None
     }
 
+    /// The number of the level, below 8.
     pub fn number(self) -> u8
         ensures same { λ r. ⌜ r ≡ self .number ⌝ }
         ensures small { λ r. ⌜ r < 8 ⌝ }

@@ -16,11 +16,13 @@ pub struct AtomSet {
 }
 
 impl AtomSet {
+    /// No atom.
     pub const NONE: AtomSet = AtomSet { bits: 0 };
 
     /// The letters: atoms 0 to 14.
     pub const LETTERS: AtomSet = AtomSet { bits: 0x7fff };
 
+    /// The set whose atoms are the bits of the word.
     pub fn from_bits(bits: u64) -> AtomSet
         ensures written { λ r. ⌜ r .bits ≡ bits ⌝ }
         ensures members { λ r. ⌜ ((i : ℕ) → has r i ≡ bit bits i) ⌝ }
@@ -28,6 +30,7 @@ impl AtomSet {
         AtomSet { bits }
     }
 
+    /// Whether the atom `a` is in the set.
     pub fn member(self, a: u8) -> bool
         ensures { λ r. ⌜ r ≡ has self a ⌝ }
     {
@@ -61,6 +64,7 @@ impl AtomSet {
         }
     }
 
+    /// The atoms of either set.
     pub fn union(self, b: AtomSet) -> AtomSet
         ensures { λ r. ⌜ ((i : ℕ) → has r i ≡ has self i || has b i) ⌝ }
     {
@@ -69,6 +73,7 @@ impl AtomSet {
         }
     }
 
+    /// The atoms of both sets.
     pub fn intersection(self, b: AtomSet) -> AtomSet
         ensures { λ r. ⌜ ((i : ℕ) → has r i ≡ has self i && has b i) ⌝ }
     {
@@ -93,6 +98,7 @@ impl AtomSet {
         AtomSet { bits: !self.bits }
     }
 
+    /// Whether no atom is in the set.
     pub fn is_empty(self) -> bool
         ensures all { λ r. ⌜ (r ≡ true → (i : ℕ) → has self i ≡ false) ⌝ }
         ensures some { λ r. ⌜ (((i : ℕ) → has self i ≡ false) → r ≡ true) ⌝ }

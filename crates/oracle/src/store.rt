@@ -15,6 +15,7 @@ pub struct Store {
 }
 
 impl Store {
+    /// A store without entries.
     pub fn new() -> Store
         ensures { λ r. ⌜ Clears (entriesOf r) ⌝ }
     {
@@ -33,6 +34,7 @@ impl Store {
         self.levels[at].take(entry)
     }
 
+    /// Drops the learnt entries of every level, and leaves the definitions in their order.
     pub fn forget(&mut self)
         ensures { λ _. ⌜ Forgets (entriesOf (now (self .entry))) (entriesOf (now (self .exit))) ⌝ }
     {
@@ -41,6 +43,7 @@ impl Store {
         }
     }
 
+    /// Empties every level.
     pub fn clear(&mut self)
         ensures { λ _. ⌜ Clears (entriesOf (now (self .exit))) ⌝ }
     {
