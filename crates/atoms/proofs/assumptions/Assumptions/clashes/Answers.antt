@@ -9,7 +9,7 @@ pub returns : goal.returns
 returns c =
     let t : ℕ → Bool = has c.intersection.result in
     record {
-      answer = ap not (empty_none 64 t c.is-empty.result (λ i l. has_high 64 c.intersection.result.bits i (omega arith) l) c.is-empty.ensures.all c.is-empty.ensures.some)
+      answer = ap not (empty_none 64 t c.is_empty.result (λ i l. has_high 64 c.intersection.result.bits i (omega arith) l) c.is_empty.ensures.all c.is_empty.ensures.some)
           ∙ not_not (some_below 64 t) ∙ some_same 64 t (λ a. has c.args.self.within a && has c.args.self.without a) (λ i _. c.intersection.ensures i);
-      apart = λ e i. sym (c.intersection.ensures i) ∙ c.is-empty.ensures.all (sym (not_not c.is-empty.result) ∙ ap not e) i;
+      apart = λ e i. sym (c.intersection.ensures i) ∙ c.is_empty.ensures.all (sym (not_not c.is_empty.result) ∙ ap not e) i;
     }
