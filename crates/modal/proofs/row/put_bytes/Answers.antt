@@ -9,4 +9,4 @@ returns c =
     let out = c.args.out.now in
     let k : at + length bs - at ≡ length bs = omega arith in
     let rest : drop (at + length bs - at) (drop at out) ≡ drop (at + length bs) out = ap (λ (n : ℕ). drop n (drop at out)) k ∙ drop-drop (length bs) at out in
-    record { value = refl; after = λ i. take at out ++ (c.copy-from-slice.ensures.after i ++ rest i) }
+    record { value = refl; after = λ i. take at out ++ (c.copy_from_slice.ensures.after i ++ rest i) }

@@ -30,8 +30,8 @@ pub returns : goal.returns
 returns c =
     let old = c.args.self.now in
     let rs = take old.len old.rows in
-    let e = sym c.in-ok-depth.ensures in
-    let p = placed_fits (row_depths rs) c.args.start c.args.row c.in-ok-depth.depth e in
+    let e = sym c.in_ok-depth.ensures in
+    let p = placed_fits (row_depths rs) c.args.start c.args.row c.in_ok-depth.depth e in
     record {
       fits = e ∙ ap Ok (sym p.1);
       rows = take_more_set old.rows old.len c.args.row (omega (arith, old.whole));

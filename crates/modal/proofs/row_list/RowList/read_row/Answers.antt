@@ -32,7 +32,7 @@ returns-then-kind-gt-LAST-KIND c =
 pub returns-then-bytes-next : goal.returns-then-bytes-next
 returns-then-bytes-next c =
     let old = c.args.self.now in
-    step_cut (64 - old.len) (63 - old.len) (listed old) c.args.bytes.now c.args.at (omega arith) c.requires c.if-kind-gt-LAST-KIND.false (omega arith)
+    step_cut (64 - old.len) (63 - old.len) (listed old) c.args.bytes.now c.args.at (omega arith) c.requires c.if-kind-gt-LAST_KIND.false (omega arith)
     ∙ ap (λ (s : RowStart). Err (CutOff s)) (started old c.args.at)
 
 pub returns-in-err-push : goal.returns-in-err-push
@@ -53,8 +53,8 @@ returns c =
     let rs = listed old in
     let bs = c.args.bytes.now in
     let at = c.args.at in
-    let is : c.of-row.result ≡ row_at bs at = c.of-row.ensures ∙ ap₂ (row_of (get_or bs at 0)) c.byte-at.ensures c.byte-at-2.ensures in
-    let told = c.in-ok-push.ensures in
+    let is : c.of-row.result ≡ row_at bs at = c.of-row.ensures ∙ ap₂ (row_of (get_or bs at 0)) c.byte_at.ensures c.byte_at-2.ensures in
+    let told = c.in_ok-push.ensures in
     let fewer : 63 - old.len ≡ 64 - c.push.new.self.len = omega (arith, told.longer) in
     let body : at + 1 + body_length (get_or bs at 0) ≡ at + 1 + c.body-len-body.result = omega arith in
     let rows : rs ++ row_at bs at ∷ [] ≡ listed c.push.new.self = ap (λ (r : Row). rs ++ r ∷ []) (sym is) ∙ sym told.rows in

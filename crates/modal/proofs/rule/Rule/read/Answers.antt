@@ -15,5 +15,5 @@ invariant-of-self c =
 
 pub returns : goal.returns
 returns c =
-    let said = c.in-ok-list.ensures in
-    (parsed_some c.args.bytes.now (let e = c.if-is-empty.ensures in grind (arith, nat_tests)) ∙ said, round_trip c.args.bytes.now _ said)
+    let said = c.in_ok-list.ensures in
+    (parsed_some c.args.bytes.now (let e = c.if-is_empty.ensures in grind (arith, nat_tests)) ∙ said, round_trip c.args.bytes.now _ said)

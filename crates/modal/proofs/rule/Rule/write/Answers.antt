@@ -14,5 +14,5 @@ pub returns : goal.returns
 returns c =
     let same = c.rows-rows.ensures.value in
     writes (rows_of c.args.self.now) c.rows-rows.ensures.lawful c.args.out.now c.size-needed.result
-    (c.size-needed.ensures ∙ ap (λ (rs : List Row). length (written rs)) same) c.if-out-needed.false c.put-all.new.out
-    (c.put-all.ensures ∙ ap (λ (rs : List Row). written rs ++ drop (length (written rs)) c.args.out.now) same)
+    (c.size-needed.ensures ∙ ap (λ (rs : List Row). length (written rs)) same) c.if-out-needed.false c.put_all.new.out
+    (c.put_all.ensures ∙ ap (λ (rs : List Row). written rs ++ drop (length (written rs)) c.args.out.now) same)
