@@ -3,4 +3,4 @@ use Rattle.std.proofs.lemmas.List.{length-replicate}
 use Rattle.arrayvec.proofs.ArrayVec.new.Goals as goal
 
 pub invariant-of-result : goal.invariant-of-result
-invariant-of-result g c = (length-replicate _ _, (omega arith, tt))
+invariant-of-result g c = record { whole = length-replicate _ _; few = omega arith }

@@ -5,26 +5,21 @@ use Rattle.modal.proofs.Built.{all_fit_push, depths_push}
 use Rattle.modal.proofs.Steps.{placed_fits}
 use Rattle.modal.proofs.row_list.RowList.push.Goals as goal
 
-pub invariant-of-self : goal.invariant-of-self
-invariant-of-self c =
+pub invariant_of-self : goal.invariant_of-self
+invariant_of-self c =
     let old = c.args.self.now in
     let rs = take old.len old.rows in
-    let d = c.in-ok-depth.depth in
-    let p = placed_fits (row_depths rs) c.args.start c.args.row d (sym c.in-ok-depth.ensures) in
+    let d = c.in_ok-depth.depth in
+    let p = placed_fits (row_depths rs) c.args.start c.args.row d (sym c.in_ok-depth.ensures) in
     let more = take_more_set old.rows old.len c.args.row (omega (arith, old.whole)) in
-    let deeper = take_more_set old.depths old.len d (omega (arith, old.full)) in (
-      length-set old.rows _ _ ∙ old.whole,
-      (
-        length-set old.depths _ _ ∙ old.full,
-        (
-          omega arith,
-          (
-            rw more (all_fit_push [] rs c.args.row old.fit p.0),
-            (deeper ∙ depths_push _ rs c.args.row d old.known p.1 ∙ sym (ap row_depths more), tt),
-          ),
-        ),
-      ),
-    )
+    let deeper = take_more_set old.depths old.len d (omega (arith, old.full)) in
+    record {
+      whole = length-set old.rows _ _ ∙ old.whole;
+      full = length-set old.depths _ _ ∙ old.full;
+      few = omega arith;
+      fit = rw more (all_fit_push [] rs c.args.row old.fit p.0);
+      known = deeper ∙ depths_push _ rs c.args.row d old.known p.1 ∙ sym (ap row_depths more);
+    }
 
 pub returns : goal.returns
 returns c =

@@ -18,15 +18,15 @@ held l = length-take-le l.len l.rows (omega (arith, l.whole, l.few))
 started : (l : RowList) (at : ℕ) → start_of (listed l) at ≡ record { row = l.len; byte = at }
 started l at = λ i. record { row = held l i; byte = at }
 
-pub returns-then-self-eq-MAX-ROWS : goal.returns-then-self-eq-MAX-ROWS
-returns-then-self-eq-MAX-ROWS c =
+pub returns-then-self-eq-MAX_ROWS : goal.returns-then-self-eq-MAX_ROWS
+returns-then-self-eq-MAX_ROWS c =
     let old = c.args.self.now in
     step_long (64 - old.len) (listed old) c.args.bytes.now c.args.at (omega arith) c.requires ∙ ap (λ (s : RowStart). Err (TooManyRows s)) (started old c.args.at)
 
-pub returns-then-kind-gt-LAST-KIND : goal.returns-then-kind-gt-LAST-KIND
-returns-then-kind-gt-LAST-KIND c =
+pub returns-then-kind-gt-LAST_KIND : goal.returns-then-kind-gt-LAST_KIND
+returns-then-kind-gt-LAST_KIND c =
     let old = c.args.self.now in
-    step_kind (64 - old.len) (63 - old.len) (listed old) c.args.bytes.now c.args.at (omega arith) c.requires c.if-kind-gt-LAST-KIND.true
+    step_kind (64 - old.len) (63 - old.len) (listed old) c.args.bytes.now c.args.at (omega arith) c.requires c.if-kind-gt-LAST_KIND.true
     ∙ ap (λ (s : RowStart). Err (UnknownKind s)) (started old c.args.at)
 
 pub returns-then-bytes-next : goal.returns-then-bytes-next
@@ -35,17 +35,17 @@ returns-then-bytes-next c =
     step_cut (64 - old.len) (63 - old.len) (listed old) c.args.bytes.now c.args.at (omega arith) c.requires c.if-kind-gt-LAST_KIND.false (omega arith)
     ∙ ap (λ (s : RowStart). Err (CutOff s)) (started old c.args.at)
 
-pub returns-in-err-push : goal.returns-in-err-push
-returns-in-err-push c =
-    let p = err_from_is_err_and c.from-residual.result c.from-residual.ensures.1 in
+pub returns-in_err-push : goal.returns-in_err-push
+returns-in_err-push c =
+    let p = err_from_is_err_and c.from_residual.result c.from_residual.ensures.1 in
     let old = c.args.self.now in
     let rs = listed old in
     let bs = c.args.bytes.now in
     let at = c.args.at in
-    let is : c.of-row.result ≡ row_at bs at = c.of-row.ensures ∙ ap₂ (row_of (get_or bs at 0)) c.byte-at.ensures c.byte-at-2.ensures in
+    let is : c.of-row.result ≡ row_at bs at = c.of-row.ensures ∙ ap₂ (row_of (get_or bs at 0)) c.byte_at.ensures c.byte_at-2.ensures in
     rw (p.1, p.2)
-    (step_bad (64 - old.len) (63 - old.len) rs bs at (omega arith) c.requires c.if-kind-gt-LAST-KIND.false (omega arith) c.in-err-push.field-0.0
-    (ap₂ (placed (row_depths rs)) (started old at) (sym is) ∙ c.in-err-push.ensures))
+    (step_bad (64 - old.len) (63 - old.len) rs bs at (omega arith) c.requires c.if-kind-gt-LAST_KIND.false (omega arith) c.in_err-push.field-0.0
+    (ap₂ (placed (row_depths rs)) (started old at) (sym is) ∙ c.in_err-push.ensures))
 
 pub returns : goal.returns
 returns c =
@@ -56,12 +56,12 @@ returns c =
     let is : c.of-row.result ≡ row_at bs at = c.of-row.ensures ∙ ap₂ (row_of (get_or bs at 0)) c.byte_at.ensures c.byte_at-2.ensures in
     let told = c.in_ok-push.ensures in
     let fewer : 63 - old.len ≡ 64 - c.push.new.self.len = omega (arith, told.longer) in
-    let body : at + 1 + body_length (get_or bs at 0) ≡ at + 1 + c.body-len-body.result = omega arith in
+    let body : at + 1 + body_length (get_or bs at 0) ≡ at + 1 + c.body_len-body.result = omega arith in
     let rows : rs ++ row_at bs at ∷ [] ≡ listed c.push.new.self = ap (λ (r : Row). rs ++ r ∷ []) (sym is) ∙ sym told.rows in
     record {
       further = omega arith;
       within = omega arith;
       same =
-          step_good (64 - old.len) (63 - old.len) rs bs at (omega arith) c.requires c.if-kind-gt-LAST-KIND.false (omega arith) _ (ap₂ (placed (row_depths rs)) (started old at) (sym is) ∙ told.fits)
+          step_good (64 - old.len) (63 - old.len) rs bs at (omega arith) c.requires c.if-kind-gt-LAST_KIND.false (omega arith) _ (ap₂ (placed (row_depths rs)) (started old at) (sym is) ∙ told.fits)
           ∙ (λ i. parse (fewer i) (rows i) (body i) (drop (body i) bs));
     }

@@ -5,13 +5,13 @@ use Rattle.modal.specs.Rules.{listed}
 use Rattle.modal.proofs.Writing.{round_trip, some_written, parsed_some}
 use Rattle.modal.proofs.rule.Rule.read.Goals as goal
 
-pub invariant-of-self : goal.invariant-of-self
-invariant-of-self c =
-    let l = c.in-ok-list.list in
-    let same = round_trip c.args.bytes.now (listed l) c.in-ok-list.ensures in
+pub invariant_of-self : goal.invariant_of-self
+invariant_of-self c =
+    let l = c.in_ok-list.list in
+    let same = round_trip c.args.bytes.now (listed l) c.in_ok-list.ensures in
     let long = length-take-le l.len l.rows (omega (arith, l.whole, l.few)) in
-    let some = some_written (listed l) (let e = ap length same in let f = c.if-is-empty.ensures in grind (arith, nat_tests)) in
-    (omega (arith, some, long), tt)
+    let some = some_written (listed l) (let e = ap length same in let f = c.if-is_empty.ensures in grind (arith, nat_tests)) in
+    record { some = omega (arith, some, long) }
 
 pub returns : goal.returns
 returns c =
