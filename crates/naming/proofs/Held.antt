@@ -14,9 +14,9 @@ use Rattle.modal.specs.declared.row.Row.{Row}
 use Rattle.modal.specs.declared.row_list.RowList.{RowList}
 use Rattle.atoms.specs.declared.clauses.Clause.{Clause}
 use Rattle.atoms.specs.declared.clauses.Entry.{Entry}
-use Rattle.arrayvec.specs.Items.{items_of}
-use Rattle.arrayvec.specs.declared.ArrayVec.{ArrayVec}
-use Rattle.arrayvec.proofs.Counted.{length_items}
+use Rattle.fixed_list.specs.Items.{items_of}
+use Rattle.fixed_list.specs.declared.ArrayVec.{ArrayVec}
+use Rattle.fixed_list.proofs.Counted.{length_items}
 use Rattle.clausal.specs.Adding.{Adds}
 use Rattle.clausal.specs.Clausal.{shape, row_at, modal_name, modals_at, gather, boxed, diamonded, Orderly, Proper, Naming}
 use Rattle.clausal.specs.Counting.{count_of_names, names_of, crowded, add_answer}

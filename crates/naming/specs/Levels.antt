@@ -3,8 +3,8 @@ use Rattle.std.specs.Prelude.{ℕ, List, [], map, slice_index_or}
 use Rattle.modal.specs.Rules.{listed}
 use Rattle.modal.specs.declared.row.Row.{Row}
 use Rattle.modal.specs.declared.row_list.RowList.{RowList}
-use Rattle.arrayvec.specs.Items.{items_of}
-use Rattle.arrayvec.specs.declared.ArrayVec.{ArrayVec}
+use Rattle.fixed_list.specs.Items.{items_of}
+use Rattle.fixed_list.specs.declared.ArrayVec.{ArrayVec}
 use Rattle.clausal.specs.States.{State}
 use Rattle.clausal.specs.declared.names.Name.{Name}
 

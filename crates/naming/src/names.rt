@@ -1,6 +1,6 @@
 // The names of a level: taking them, and the literals that they give.
 ghost use Rattle.std.specs.Prelude.{◌≡◌, ◌+◌, ◌<◌, ◌≤◌, true, ◌++◌, length};
-ghost use Rattle.arrayvec.specs.Items.{items_of};
+ghost use Rattle.fixed_list.specs.Items.{items_of};
 ghost use Rattle.clausal.specs.Counting.{count_of_names};
 ghost use Rattle.clausal.specs.Places.{is_place_of, name_in};
 ghost use Rattle.clausal.specs.States.{is_handle_of};
@@ -10,7 +10,7 @@ ghost use Rattle.naming.specs.Names.{lit_in, names_for};
 
 use crate::counts::is_taker;
 use crate::numbers::{LEVEL, place_of};
-use arrayvec::ArrayVec;
+use fixed_list::ArrayVec;
 use atoms::clauses::Literal;
 use clausal::names::Name;
 use modal::row::Row;

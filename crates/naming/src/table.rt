@@ -10,7 +10,7 @@ use crate::counts::LEVELS;
 use crate::definitions::Definitions;
 use crate::names::Names;
 use crate::writes::ModalClauses;
-use arrayvec::ArrayVec;
+use fixed_list::ArrayVec;
 use modal::row_list::RowList;
 
 mod methods;

@@ -1,6 +1,6 @@
 // The clauses that a rule's names give.
 ghost use Rattle.std.specs.Prelude.{◌≡◌, ℕ, ◌+◌, ◌-◌, ◌*◌, ◌<◌, ◌≤◌, true, ◌++◌, map, length, drop, slice_index_or};
-ghost use Rattle.arrayvec.specs.Items.{items_of};
+ghost use Rattle.fixed_list.specs.Items.{items_of};
 ghost use Rattle.atoms.specs.Clauses.{clause_from};
 ghost use Rattle.clausal.specs.Clausal.{shape, defines, modals, boxed, diamonded, gather};
 ghost use Rattle.clausal.specs.declared.names.Name.TheVariants.{Free};
@@ -10,7 +10,7 @@ ghost use Rattle.naming.specs.Names.{lit_in, clauses_own, modal_own, InRule};
 
 use crate::clauses::{implies, implies_either};
 use crate::names::{FIRST_NAME, literal};
-use arrayvec::ArrayVec;
+use fixed_list::ArrayVec;
 use atoms::clauses::Clause;
 use clausal::modal_clauses::ModalClause;
 use clausal::names::Name;

@@ -103,8 +103,8 @@ module _ (rows : List Row) (count : ℕ) (ws : List World) (w : ℕ) where
   pub scan_end : (rest : List ℕ) (all any : AtomSet) → rest ≡ [] → Scanned rows count ws w rest all any → OverRows rows count ws w (record { all = all; any = any })
   scan_end rest all any e s =
       record {
-        everywhere = λ k l. sym (s.every-so-far k l ∙ ap (λ (xs : List ℕ). has all k && every (true_at rows k ws) xs) e ∙ and_true (has all k));
-        somewhere = λ k l. sym (s.some-so-far k l ∙ ap (λ (xs : List ℕ). has any k || some (true_at rows k ws) xs) e ∙ or_false (has any k));
+        everywhere = λ k l. sym (s.every_so_far k l ∙ ap (λ (xs : List ℕ). has all k && every (true_at rows k ws) xs) e ∙ and_true (has all k));
+        somewhere = λ k l. sym (s.some_so_far k l ∙ ap (λ (xs : List ℕ). has any k || some (true_at rows k ws) xs) e ∙ or_false (has any k));
       }
 
   module _ (t : List SheetRow) (j : ℕ) (pos : 0 < j) (l : j < length t) (all any : AtomSet) (s : Scanned rows count ws w (successors_of w j (drop j t)) all any) where
@@ -122,11 +122,11 @@ module _ (rows : List Row) (count : ℕ) (ws : List World) (w : ℕ) where
     scan_successor e there more fewer h f g =
         record {
           every_so_far = λ k m.
-              s.every-so-far k m ∙ ap (λ (xs : List ℕ). has all k && every (true_at rows k ws) xs) (hit e)
+              s.every_so_far k m ∙ ap (λ (xs : List ℕ). has all k && every (true_at rows k ws) xs) (hit e)
               ∙ and_assoc (has all k) (true_at rows k ws j) (every (true_at rows k ws) rest) ∙ ap (λ (b : Bool). (has all k && b) && every (true_at rows k ws) rest) (sym (h k m))
               ∙ ap (λ (b : Bool). b && every (true_at rows k ws) rest) (sym (f k));
           some_so_far = λ k m.
-              s.some-so-far k m ∙ ap (λ (xs : List ℕ). has any k || some (true_at rows k ws) xs) (hit e)
+              s.some_so_far k m ∙ ap (λ (xs : List ℕ). has any k || some (true_at rows k ws) xs) (hit e)
               ∙ or_assoc (has any k) (true_at rows k ws j) (some (true_at rows k ws) rest) ∙ ap (λ (b : Bool). (has any k || b) || some (true_at rows k ws) rest) (sym (h k m))
               ∙ ap (λ (b : Bool). b || some (true_at rows k ws) rest) (sym (g k));
         }

@@ -13,7 +13,7 @@ use crate::names::{FIRST_NAME, Names, is_handle};
 use crate::reach::reached;
 use crate::table::{Added, Table};
 use crate::writes::{LevelClauses, ModalClauses};
-use arrayvec::ArrayVec;
+use fixed_list::ArrayVec;
 use atoms::clauses::{Clause, Literal};
 use atoms::levels::Level;
 use clausal::faults::AddFault;

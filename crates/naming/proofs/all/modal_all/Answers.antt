@@ -1,5 +1,5 @@
 use Rattle.std.proofs.Common.{ℕ, ◌+◌, ◌<◌, List, ◌++◌, length, get_or, drop, sym, ap, ◌∙◌, subst, arith}
-use Rattle.arrayvec.specs.Items.{items_of}
+use Rattle.fixed_list.specs.Items.{items_of}
 use Rattle.clausal.specs.Clausal.{gather, boxed, diamonded}
 use Rattle.clausal.specs.declared.modal_clauses.ModalClause.{ModalClause}
 use Rattle.clausal.specs.declared.names.Name.{Name}

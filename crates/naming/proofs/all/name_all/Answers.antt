@@ -1,5 +1,5 @@
 use Rattle.std.proofs.Common.{◌<◌, List, ◌++◌, length, sym, ap, ◌∙◌, arith}
-use Rattle.arrayvec.specs.Items.{items_of}
+use Rattle.fixed_list.specs.Items.{items_of}
 use Rattle.clausal.specs.declared.names.Name.{Name}
 use Rattle.naming.specs.Levels.{level_items}
 use Rattle.naming.specs.Names.{names_for}

@@ -1,6 +1,6 @@
 use Rattle.std.proofs.Common.{◌≡◌, ℕ, ◌<◌, List, ◌++◌, length, get_or, ap, arith}
-use Rattle.arrayvec.specs.Items.{items_of}
-use Rattle.arrayvec.specs.declared.ArrayVec.{ArrayVec}
+use Rattle.fixed_list.specs.Items.{items_of}
+use Rattle.fixed_list.specs.declared.ArrayVec.{ArrayVec}
 use Rattle.modal.specs.declared.row.Row.{Row}
 use Rattle.clausal.specs.declared.names.Name.{Name}
 use Rattle.clausal.proofs.Rows.{Lawful, lawful_rows}

@@ -1,7 +1,7 @@
 use Rattle.std.proofs.Common.{◌≡◌, ◌<◌, length, sym, refl, ap, ◌∙◌, arith}
 use Rattle.std.proofs.lemmas.Bool.{eq-eqb, cond-true}
-use Rattle.arrayvec.specs.Items.{items_of}
-use Rattle.arrayvec.proofs.Counted.{pushed}
+use Rattle.fixed_list.specs.Items.{items_of}
+use Rattle.fixed_list.proofs.Counted.{pushed}
 use Rattle.clausal.specs.declared.names.Name.TheVariants.{Place}
 use Rattle.clausal.specs.declared.places.Place.{Place as Spot}
 use Rattle.clausal.proofs.Rows.{lawful_rows}

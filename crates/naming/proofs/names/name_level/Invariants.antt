@@ -1,5 +1,5 @@
 use Rattle.std.proofs.Common.{◌≡◌, ◌++◌}
-use Rattle.arrayvec.specs.Items.{items_of}
+use Rattle.fixed_list.specs.Items.{items_of}
 use Rattle.naming.specs.Names.{places_named}
 use Rattle.naming.specs.Order.{takers}
 use Rattle.naming.proofs.names.name_level.Given as goal

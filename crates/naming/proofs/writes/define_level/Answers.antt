@@ -1,7 +1,7 @@
 use Rattle.std.proofs.Common.{◌≤◌, length, sym, ap, ◌∙◌, subst, arith}
 use Rattle.std.proofs.lemmas.List.{append-nil}
-use Rattle.arrayvec.specs.Items.{items_of}
-use Rattle.arrayvec.proofs.Counted.{pushed}
+use Rattle.fixed_list.specs.Items.{items_of}
+use Rattle.fixed_list.proofs.Counted.{pushed}
 use Rattle.clausal.specs.declared.names.Name.TheVariants.{Free, Place, Handle}
 use Rattle.naming.specs.Names.{InRule}
 use Rattle.naming.proofs.Giving.{whole_end, define_step, handle_given}

@@ -1,6 +1,6 @@
 use Rattle.std.proofs.Common.{◌<◌, [], ◌∷◌, length, ◌∙◌, arith}
-use Rattle.arrayvec.specs.Items.{items_of}
-use Rattle.arrayvec.proofs.Counted.{pushed}
+use Rattle.fixed_list.specs.Items.{items_of}
+use Rattle.fixed_list.proofs.Counted.{pushed}
 use Rattle.clausal.specs.declared.shapes.Shape.TheVariants.{Both, Either}
 use Rattle.clausal.proofs.Rows.{lawful_rows}
 use Rattle.naming.proofs.Giving.{shape_here, shape_in, given_both, given_either, given_none, longer}

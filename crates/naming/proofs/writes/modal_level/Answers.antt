@@ -1,5 +1,5 @@
 use Rattle.std.proofs.Common.{◌≤◌, length, get_or, refl, ap, ◌∙◌, subst, arith}
-use Rattle.arrayvec.specs.Items.{items_of}
+use Rattle.fixed_list.specs.Items.{items_of}
 use Rattle.clausal.specs.Clausal.{boxed, diamonded}
 use Rattle.clausal.specs.declared.names.Name.TheVariants.{Free, Place}
 use Rattle.naming.specs.Names.{InRule}

@@ -1,5 +1,5 @@
 use Rattle.std.proofs.Common.{◌≡◌, ℕ, ◌+◌, ◌≤◌, List, ◌++◌, length, drop}
-use Rattle.arrayvec.specs.Items.{items_of}
+use Rattle.fixed_list.specs.Items.{items_of}
 use Rattle.modal.specs.declared.row.Row.{Row}
 use Rattle.clausal.specs.Clausal.{gather, boxed, diamonded}
 use Rattle.clausal.specs.declared.modal_clauses.ModalClause.{ModalClause}

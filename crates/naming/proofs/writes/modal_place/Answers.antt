@@ -1,5 +1,5 @@
 use Rattle.std.proofs.Common.{refl, ◌∙◌, arith}
-use Rattle.arrayvec.proofs.Counted.{pushed}
+use Rattle.fixed_list.proofs.Counted.{pushed}
 use Rattle.clausal.specs.Clausal.{boxed, diamonded}
 use Rattle.clausal.specs.declared.shapes.Shape.TheVariants.{All, One}
 use Rattle.clausal.proofs.Rows.{lawful_rows}

@@ -1,5 +1,5 @@
 use Rattle.std.proofs.Common.{◌<◌, length, sym, ap, ◌∙◌, arith}
-use Rattle.arrayvec.specs.Items.{items_of}
+use Rattle.fixed_list.specs.Items.{items_of}
 use Rattle.naming.specs.Levels.{level_items}
 use Rattle.naming.proofs.Every.{level_read}
 use Rattle.naming.proofs.definitions.Definitions.at.Goals as goal

@@ -1,6 +1,6 @@
 use Rattle.std.proofs.Common.{◌≡◌, ◌<◌, true, List, length, sym, refl, ap, ◌∙◌, subst, arith}
-use Rattle.arrayvec.specs.Items.{items_of}
-use Rattle.arrayvec.proofs.Counted.{pushed}
+use Rattle.fixed_list.specs.Items.{items_of}
+use Rattle.fixed_list.proofs.Counted.{pushed}
 use Rattle.modal.specs.Rows.{lawful}
 use Rattle.modal.specs.Rules.{rows_of}
 use Rattle.modal.specs.declared.row.Row.{Row}

@@ -1,5 +1,5 @@
 use Rattle.std.proofs.Common.{◌≡◌, ℕ, ◌<◌, true, false, List, length, get_or, sym, ap, ◌∙◌, subst, arith, below_more}
-use Rattle.arrayvec.specs.Items.{items_of}
+use Rattle.fixed_list.specs.Items.{items_of}
 use Rattle.clausal.specs.States.{is_handle_of}
 use Rattle.clausal.specs.declared.names.Name.{Name}
 use Rattle.clausal.specs.declared.names.Name.TheVariants.{Free}

@@ -1,6 +1,6 @@
 use Rattle.std.proofs.Common.{rules}
-use Rattle.arrayvec.proofs.Counted.{length_items}
-use Rattle.arrayvec.proofs.ArrayVec.push.Goals as goal
+use Rattle.fixed_list.proofs.Counted.{length_items}
+use Rattle.fixed_list.proofs.ArrayVec.push.Goals as goal
 use Rattle.std.proofs.lemmas.List.{take_more_set}
 
 pub returns-then-self : goal.returns-then-self

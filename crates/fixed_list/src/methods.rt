@@ -1,5 +1,5 @@
 ghost use Rattle.std.specs.Prelude.{◌≡◌, ◌≤◌, [], ◌∷◌, ◌++◌, length, if◌then◌else◌, nat_lt};
-ghost use Rattle.arrayvec.specs.Items.{items_of};
+ghost use Rattle.fixed_list.specs.Items.{items_of};
 
 use crate::ArrayVec;
 

@@ -1,7 +1,7 @@
 -- The length of a list is the number of its items, and what a push appends.
 use Rattle.std.proofs.Common.{◌≡◌, ℕ, ◌<◌, Bool, cond, ltb, List, [], ◌∷◌, ◌++◌, length, ◌∙◌, arith}
-use Rattle.arrayvec.specs.declared.ArrayVec.{ArrayVec}
-use Rattle.arrayvec.specs.Items.{items_of}
+use Rattle.fixed_list.specs.declared.ArrayVec.{ArrayVec}
+use Rattle.fixed_list.specs.Items.{items_of}
 use Rattle.std.proofs.lemmas.List.{length-take-le}
 use Rattle.std.proofs.lemmas.Bool.{cond-true, lt-ltb}
 

@@ -1,6 +1,6 @@
 -- What a list holds.
 use Rattle.std.specs.Prelude.{ℕ, List, take}
-use Rattle.arrayvec.specs.declared.ArrayVec.{ArrayVec}
+use Rattle.fixed_list.specs.declared.ArrayVec.{ArrayVec}
 
 -- the items, in the order in which they came
 abbrev pub items_of : {T : Type 0} {N : ℕ} → ArrayVec T N → List T
