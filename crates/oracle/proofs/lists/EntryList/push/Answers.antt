@@ -34,21 +34,21 @@ more-learnt r m e h =
 pub bounds-self-self : goal.bounds-self-self
 bounds-self-self c = inside c.args.self.now c.args.entry.mark (omega arith) c.requires
 
-pub invariant-of-self : goal.invariant-of-self
-invariant-of-self c =
+pub invariant_of-self : goal.invariant_of-self
+invariant_of-self c =
     let r : EntryList = c.args.self.now in
     let l : r.len < 225 = inside c.args.self.now c.args.entry.mark (omega arith) c.requires in
     let k : r.defined < 97 = more-definitions c.args.self.now c.args.entry.mark c.in-Definition.is c.requires in
     let g = grown_definition r.slots r.len c.args.entry (omega arith) c.in-Definition.is in
-    (omega arith, (omega (arith, g.defines, r.defines), (omega (arith, g.teaches, r.teaches), (omega arith, (omega arith, tt)))))
+    record { within = omega arith; defines = omega (arith, g.defines, r.defines); teaches = omega (arith, g.teaches, r.teaches); few = omega arith; short = omega arith }
 
-pub invariant-of-self-in-Learnt : goal.invariant-of-self-in-Learnt
-invariant-of-self-in-Learnt c =
+pub invariant_of-self-in-Learnt : goal.invariant_of-self-in-Learnt
+invariant_of-self-in-Learnt c =
     let r : EntryList = c.args.self.now in
     let l : r.len < 225 = inside c.args.self.now c.args.entry.mark (omega arith) c.requires in
     let k : r.taught < 128 = more-learnt c.args.self.now c.args.entry.mark c.in-Learnt.is c.requires in
     let g = grown_learnt r.slots r.len c.args.entry (omega arith) c.in-Learnt.is in
-    (omega arith, (omega (arith, g.defines, r.defines), (omega (arith, g.teaches, r.teaches), (omega arith, (omega arith, tt)))))
+    record { within = omega arith; defines = omega (arith, g.defines, r.defines); teaches = omega (arith, g.teaches, r.teaches); few = omega arith; short = omega arith }
 
 pub returns-in-Definition : goal.returns-in-Definition
 returns-in-Definition c =
