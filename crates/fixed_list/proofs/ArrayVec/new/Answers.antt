@@ -2,5 +2,5 @@ use Rattle.std.proofs.Common.{arith}
 use Rattle.std.proofs.lemmas.List.{length-replicate}
 use Rattle.fixed_list.proofs.ArrayVec.new.Goals as goal
 
-pub invariant-of-result : goal.invariant-of-result
-invariant-of-result g c = record { whole = length-replicate _ _; few = omega arith }
+pub invariant_of-result : goal.invariant_of-result
+invariant_of-result g c = record { whole = length-replicate _ _; within = omega arith }

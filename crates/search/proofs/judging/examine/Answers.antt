@@ -13,10 +13,10 @@ loop-entry-init c s h = h
 split : (es : List Entry) (i : ℕ) → i < length es → drop i es ≡ get_or es i blank ∷ drop (i + 1) es
 split es i l = rw (add-one, drop-cons es i blank)
 
-pub returns-in-default : goal.returns-in-default
-returns-in-default c =
+pub returns-in_default : goal.returns-in_default
+returns-in_default c =
     c.loop-entry.invariant c.judge.result (subst (λ (xs : List Entry). FirstJudged c.args.trail xs c.judge.result)
-    (sym (split c.args.entries.now c.loop-entry.entry-index c.loop-entry-test.true)) (here c.in-default.not-Open c.judge.ensures))
+    (sym (split c.args.entries.now c.loop-entry.entry-index c.loop-entry-test.true)) (here c.in_default.not-Open c.judge.ensures))
 
 pub loop-entry-preserved : goal.loop-entry-preserved
 loop-entry-preserved c s h =

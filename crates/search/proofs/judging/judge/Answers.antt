@@ -30,57 +30,57 @@ sole-low w s r fits is y ly h = record { small = ly; members = λ i. low (has r 
     low : (b : Bool) (i : ℕ) → (64 ≤ i → b ≡ false) → (i < 64 → b ≡ eqb y i) → b ≡ eqb y i
     low b i f g = grind (arith, nat_tests, f, g)
 
-pub returns-then-not-is-empty : goal.returns-then-not-is-empty
-returns-then-not-is-empty c =
-    let m = true-is c.args.trail c.args.clause c.intersection-plain-true.result c.intersection-negated-true.result c.union.result
-    c.intersection-plain-true.ensures c.intersection-negated-true.ensures c.union.ensures in
+pub returns-then-not-is_empty : goal.returns-then-not-is_empty
+returns-then-not-is_empty c =
+    let m = true-is c.args.trail c.args.clause c.intersection-plain_true.result c.intersection-negated_true.result c.union.result
+    c.intersection-plain_true.ensures c.intersection-negated_true.ensures c.union.ensures in
     leaves_met c.args.trail c.args.clause
-    (λ h. all_out (has c.union.result) c.is-empty.result (λ i l. has_high 64 c.union.result.bits i (omega arith) l) c.is-empty.ensures.some c.if-not-is-empty.true (λ a l. m a ∙ h a l))
+    (λ h. all_out (has c.union.result) c.is_empty.result (λ i l. has_high 64 c.union.result.bits i (omega arith) l) c.is_empty.ensures.some c.if-not-is_empty.true (λ a l. m a ∙ h a l))
 
 pub returns-in-Some : goal.returns-in-Some
 returns-in-Some c =
-    let m = true-is c.args.trail c.args.clause c.intersection-plain-true.result c.intersection-negated-true.result c.union.result
-    c.intersection-plain-true.ensures c.intersection-negated-true.ensures c.union.ensures in
+    let m = true-is c.args.trail c.args.clause c.intersection-plain_true.result c.intersection-negated_true.result c.union.result
+    c.intersection-plain_true.ensures c.intersection-negated_true.ensures c.union.ensures in
     let p = open_is c.args.trail c.args.clause.plain c.union-decided.result c.difference-plain.result c.union-decided.ensures c.difference-plain.ensures in
     let n = open_is c.args.trail c.args.clause.negated c.union-decided.result c.difference-negated.result c.union-decided.ensures c.difference-negated.ensures in
     record {
       small = c.in-Some.ensures.small;
-      untrue = λ a _. sym (m a) ∙ c.is-empty.ensures.all c.if-not-is-empty.false a;
+      untrue = λ a _. sym (m a) ∙ c.is_empty.ensures.all c.if-not-is_empty.false a;
       plain = λ a _. p a ∙ c.in-Some.ensures.members a;
-      negated = λ a _. n a ∙ c.is-empty-2.ensures.all c.if-is-empty.true a;
+      negated = λ a _. n a ∙ c.is_empty-2.ensures.all c.if-is_empty.true a;
     }
 
 pub returns-in-Some-sole : goal.returns-in-Some-sole
 returns-in-Some-sole c =
-    let m = true-is c.args.trail c.args.clause c.intersection-plain-true.result c.intersection-negated-true.result c.union.result
-    c.intersection-plain-true.ensures c.intersection-negated-true.ensures c.union.ensures in
+    let m = true-is c.args.trail c.args.clause c.intersection-plain_true.result c.intersection-negated_true.result c.union.result
+    c.intersection-plain_true.ensures c.intersection-negated_true.ensures c.union.ensures in
     let p = open_is c.args.trail c.args.clause.plain c.union-decided.result c.difference-plain.result c.union-decided.ensures c.difference-plain.ensures in
     let n = open_is c.args.trail c.args.clause.negated c.union-decided.result c.difference-negated.result c.union-decided.ensures c.difference-negated.ensures in
     record {
       small = c.in-Some-sole.ensures.small;
-      untrue = λ a _. sym (m a) ∙ c.is-empty.ensures.all c.if-not-is-empty.false a;
-      plain = λ a _. p a ∙ c.is-empty-else-is-empty.ensures.all c.if-is-empty-3.true a;
+      untrue = λ a _. sym (m a) ∙ c.is_empty.ensures.all c.if-not-is_empty.false a;
+      plain = λ a _. p a ∙ c.is_empty-else-is_empty.ensures.all c.if-is_empty-3.true a;
       negated = λ a _. n a ∙ c.in-Some-sole.ensures.members a;
     }
 
-pub returns-in-default : goal.returns-in-default
-returns-in-default c =
+pub returns-in_default : goal.returns-in_default
+returns-in_default c =
     let p = open_is c.args.trail c.args.clause.plain c.union-decided.result c.difference-plain.result c.union-decided.ensures c.difference-plain.ensures in
     leaves_many true c.args.trail c.args.clause
-    (some-open c.args.trail c.args.clause.plain c.difference-plain.result c.is-empty-then-is-empty.result (omega arith) p c.is-empty-then-is-empty.ensures.some c.if-is-empty-2.false)
-    (λ y l h. c.in-default.ensures y (sole-low c.args.trail c.args.clause.plain c.difference-plain.result (omega arith) p y l h))
+    (some-open c.args.trail c.args.clause.plain c.difference-plain.result c.is_empty-then-is_empty.result (omega arith) p c.is_empty-then-is_empty.ensures.some c.if-is_empty-2.false)
+    (λ y l h. c.in_default.ensures y (sole-low c.args.trail c.args.clause.plain c.difference-plain.result (omega arith) p y l h))
 
-pub returns-in-default-sole : goal.returns-in-default-sole
-returns-in-default-sole c =
+pub returns-in_default-sole : goal.returns-in_default-sole
+returns-in_default-sole c =
     let n = open_is c.args.trail c.args.clause.negated c.union-decided.result c.difference-negated.result c.union-decided.ensures c.difference-negated.ensures in
     leaves_many false c.args.trail c.args.clause
-    (some-open c.args.trail c.args.clause.negated c.difference-negated.result c.is-empty-2.result (omega arith) n c.is-empty-2.ensures.some c.if-is-empty.false)
-    (λ y l h. c.in-default-sole.ensures y (sole-low c.args.trail c.args.clause.negated c.difference-negated.result (omega arith) n y l h))
+    (some-open c.args.trail c.args.clause.negated c.difference-negated.result c.is_empty-2.result (omega arith) n c.is_empty-2.ensures.some c.if-is_empty.false)
+    (λ y l h. c.in_default-sole.ensures y (sole-low c.args.trail c.args.clause.negated c.difference-negated.result (omega arith) n y l h))
 
-pub returns-else-is-empty-3 : goal.returns-else-is-empty-3
-returns-else-is-empty-3 c =
+pub returns-else-is_empty-3 : goal.returns-else-is_empty-3
+returns-else-is_empty-3 c =
     let p = open_is c.args.trail c.args.clause.plain c.union-decided.result c.difference-plain.result c.union-decided.ensures c.difference-plain.ensures in
     let n = open_is c.args.trail c.args.clause.negated c.union-decided.result c.difference-negated.result c.union-decided.ensures c.difference-negated.ensures in
     leaves_both c.args.trail c.args.clause
-    (some-open c.args.trail c.args.clause.plain c.difference-plain.result c.is-empty-else-is-empty.result (omega arith) p c.is-empty-else-is-empty.ensures.some c.if-is-empty-3.false)
-    (some-open c.args.trail c.args.clause.negated c.difference-negated.result c.is-empty-2.result (omega arith) n c.is-empty-2.ensures.some c.if-is-empty.false)
+    (some-open c.args.trail c.args.clause.plain c.difference-plain.result c.is_empty-else-is_empty.result (omega arith) p c.is_empty-else-is_empty.ensures.some c.if-is_empty-3.false)
+    (some-open c.args.trail c.args.clause.negated c.difference-negated.result c.is_empty-2.result (omega arith) n c.is_empty-2.ensures.some c.if-is_empty.false)

@@ -2,5 +2,5 @@ use Rattle.std.proofs.Common.{refl, ◌∙◌, eq-eqb}
 use Rattle.lists.proofs.Truth.{true_false}
 use Rattle.search.proofs.judging.sole.Goals as goal
 
-pub returns-in-default : goal.returns-in-default
-returns-in-default c a h = true_false (h.members a ∙ eq-eqb a a refl) (c.in-default.ensures a)
+pub returns-in_default : goal.returns-in_default
+returns-in_default c a h = true_false (h.members a ∙ eq-eqb a a refl) (c.in_default.ensures a)

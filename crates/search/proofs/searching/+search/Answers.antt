@@ -64,12 +64,12 @@ returns-in-Forced t c =
           c.in-Forced.ensures c.begin-trial.ensures.joined c.search.ensures.order;
     }
 
-pub returns-in-default : goal.returns-in-default
-returns-in-default t c =
+pub returns-in_default : goal.returns-in_default
+returns-in_default t c =
     record {
       same = refl;
       order = full (c.clashes.ensures.apart c.if-clashes.false) c.in-Open.ensures
-          (all-full c.args.trail.now c.undecided.result c.undecided.ensures c.in-default.ensures);
+          (all-full c.args.trail.now c.undecided.result c.undecided.ensures c.in_default.ensures);
     }
 
 pub begin-trial-requires-in-Open : goal.begin-trial-requires-in-Open
@@ -98,12 +98,12 @@ pub search-requires-in-Open-2 : goal.search-requires-in-Open-2
 search-requires-in-Open-2 t c =
     (below c.decreases (left-same _ c.args.trail.now _ _ c.begin-trial-in-Open-2.ensures.joined (search rules) c.begin-trial-in-Open-2.ensures.less), tt)
 
-pub returns-in-default-search : goal.returns-in-default-search
-returns-in-default-search t c =
+pub returns-in_default-search : goal.returns-in_default-search
+returns-in_default-search t c =
     record {
       same = search rules;
       order = try_out c.in-Some.atom (c.clashes.ensures.apart c.if-clashes.false) c.in-Open.ensures
           (lowest-open c.args.trail.now c.undecided.result c.in-Some.atom c.undecided.ensures c.in-Some.ensures)
-          c.begin-trial-in-Open.ensures.joined c.in-default-search.ensures.order
+          c.begin-trial-in-Open.ensures.joined c.in_default-search.ensures.order
           (joined _ c.args.trail.now _ _ (search rules) c.begin-trial-in-Open-2.ensures.joined) c.search-in-Open-2.ensures.order;
     }
