@@ -40,11 +40,11 @@ out-here base to a e = e a ∙ own (has base a)
     own true = grind (arith, nat_tests)
     own false = refl
 
-pub returns-then-all-hold : goal.returns-then-all-hold
-returns-then-all-hold t c = record { varies = λ i _. refl; made = sym c.if-all-hold.ensures }
+pub returns-then-all_hold : goal.returns-then-all_hold
+returns-then-all_hold t c = record { varies = λ i _. refl; made = sym c.if-all_hold.ensures }
 
-pub returns-else-all-hold : goal.returns-else-all-hold
-returns-else-all-hold t c v h m = alone c.args.entries.now c.args.free c.args.base c.in-default.ensures (sym c.if-all-hold.ensures) v h m
+pub returns-else-all_hold : goal.returns-else-all_hold
+returns-else-all_hold t c v h m = alone c.args.entries.now c.args.free c.args.base c.in_default.ensures (sym c.if-all_hold.ensures) v h m
 
 pub find-requires : goal.find-requires
 find-requires t c = (below c.decreases (c.remove-rest.ensures.fewer c.in-Some.ensures.member), tt)

@@ -41,8 +41,8 @@ free-is es w n m f a b d i =
 same : (u v f : AtomSet) → u ≡ v → Part v.bits f.bits → Part u.bits f.bits
 same u v f e p = subst (λ (s : AtomSet). Part s.bits f.bits) (sym e) p
 
-pub next-part-requires : goal.next-part-requires
-next-part-requires c = same c.loop-entry.counted c.next.counted c.difference-free.result c.loop-entry.invariant.1 c.next.invariant.0
+pub next_part-requires : goal.next_part-requires
+next_part-requires c = same c.loop-entry.counted c.next.counted c.difference-free.result c.loop-entry.invariant.1 c.next.invariant.0
 
 falls : (u v m f : AtomSet) → u ≡ v → f.bits < 2 ^ 64 → m.bits < 2 ^ 64 → NextPart u.bits f.bits m.bits → f.bits - m.bits < f.bits - v.bits
 falls u v m f e lf lm n =
