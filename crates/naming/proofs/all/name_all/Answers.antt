@@ -6,8 +6,8 @@ use Rattle.naming.specs.Names.{names_for}
 use Rattle.naming.proofs.Every.{level_read, level_done}
 use Rattle.naming.proofs.all.name_all.Goals as goal
 
-pub name-level-requires : goal.name-level-requires
-name-level-requires c =
+pub name_level-requires : goal.name_level-requires
+name_level-requires c =
     let l = c.loop-level.level in
     let h : l < length c.loop-level.names = omega arith in
     let a = level_read items_of c.loop-level.names l c.index-names-level.result h in
@@ -20,5 +20,5 @@ loop-level-preserved c =
     let h : l < length c.loop-level.names = omega arith in
     let a = level_read items_of c.loop-level.names l c.index-names-level.result h in
     let b = c.loop-level.invariant.1 l (omega arith) in
-    let e = c.name-level.ensures ∙ ap (λ (t : List Name). t ++ names_for c.args.rule c.args.rows.now l) (sym a ∙ b) in
-    level_done items_of c.loop-level.names c.args.names.now (λ k. level_items c.args.names.now k ++ names_for c.args.rule c.args.rows.now k) l c.name-level.new.names h e c.loop-level.invariant.0 c.loop-level.invariant.1
+    let e = c.name_level.ensures ∙ ap (λ (t : List Name). t ++ names_for c.args.rule c.args.rows.now l) (sym a ∙ b) in
+    level_done items_of c.loop-level.names c.args.names.now (λ k. level_items c.args.names.now k ++ names_for c.args.rule c.args.rows.now k) l c.name_level.new.names h e c.loop-level.invariant.0 c.loop-level.invariant.1

@@ -12,11 +12,11 @@ use Rattle.naming.proofs.all.take_in.Goals as goal
 appended : (r : ℕ) (rows : List Row) → Lawful rows → (fs fs' : List (ArrayVec Name 48)) → length fs ≡ 8 → length fs' ≡ 8 → ((l : ℕ) → l < 8 → level_items fs' l ≡ level_items fs l ++ names_for r rows l) → (l : ℕ) → level_items fs' l ≡ level_items fs l ++ names_for r rows l
 appended r rows ok fs fs' e e' h = names_all r rows ok (level_items fs) (level_items fs') (λ l k. past items_of fs l e k) (λ l k. past items_of fs' l e' k) h
 
-pub define-all-requires : goal.define-all-requires
-define-all-requires c =
-    let w : length c.name-all.new.names ≡ 8 = omega arith in
+pub define_all-requires : goal.define_all-requires
+define_all-requires c =
+    let w : length c.name_all.new.names ≡ 8 = omega arith in
     let ok = lawful_rows _ c.requires.lawful in
-    let a = appended _ _ ok c.args.names.now c.name-all.new.names c.requires.whole w c.name-all.ensures in
+    let a = appended _ _ ok c.args.names.now c.name_all.new.names c.requires.whole w c.name_all.ensures in
     let f = c.lengths-from.ensures in
     record {
       whole = w;
@@ -26,11 +26,11 @@ define-all-requires c =
       room = λ l. omega (arith, ap length (c.requires.empty l), new_room _ _ ok l (level_items c.args.names.now l) _ (a l) (c.requires.room l));
     }
 
-pub modal-all-requires : goal.modal-all-requires
-modal-all-requires c =
-    let w : length c.name-all.new.names ≡ 8 = omega arith in
+pub modal_all-requires : goal.modal_all-requires
+modal_all-requires c =
+    let w : length c.name_all.new.names ≡ 8 = omega arith in
     let ok = lawful_rows _ c.requires.lawful in
-    let a = appended _ _ ok c.args.names.now c.name-all.new.names c.requires.whole w c.name-all.ensures in
+    let a = appended _ _ ok c.args.names.now c.name_all.new.names c.requires.whole w c.name_all.ensures in
     let f = c.lengths-from.ensures in
     record {
       whole = w;
@@ -43,8 +43,8 @@ modal-all-requires c =
 
 pub returns : goal.returns
 returns c =
-    let w : length c.name-all.new.names ≡ 8 = omega arith in
-    let o : length c.define-all.new.out ≡ 8 = omega arith in
+    let w : length c.name_all.new.names ≡ 8 = omega arith in
+    let o : length c.define_all.new.out ≡ 8 = omega arith in
     let ok = lawful_rows _ c.requires.lawful in
-    let a = appended _ _ ok c.args.names.now c.name-all.new.names c.requires.whole w c.name-all.ensures in
-    taken_in _ _ ok (level_items c.args.names.now) (level_items c.name-all.new.names) (λ l. get_or c.lengths-from.result l 0) a c.lengths-from.ensures c.requires.room _ _ _ _ (level_items c.args.out.now) (level_items c.define-all.new.out) c.requires.empty c.define-all.ensures (λ l k. past items_of c.define-all.new.out l o k) c.modal-all.ensures.boxes c.modal-all.ensures.diamonds c.modal-all.ensures.rest
+    let a = appended _ _ ok c.args.names.now c.name_all.new.names c.requires.whole w c.name_all.ensures in
+    taken_in _ _ ok (level_items c.args.names.now) (level_items c.name_all.new.names) (λ l. get_or c.lengths-from.result l 0) a c.lengths-from.ensures c.requires.room _ _ _ _ (level_items c.args.out.now) (level_items c.define_all.new.out) c.requires.empty c.define_all.ensures (λ l k. past items_of c.define_all.new.out l o k) c.modal_all.ensures.boxes c.modal_all.ensures.diamonds c.modal_all.ensures.rest

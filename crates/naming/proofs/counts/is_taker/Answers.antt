@@ -12,10 +12,10 @@ returns-then-not-marks-n c = sym (unmarked_takes _ _ (lawful_rows _ c.requires.l
 
 pub bounds-rows-from : goal.bounds-rows-from
 bounds-rows-from c =
-    let a : c.place-of-place.result.row ≡ (place_numbered c.args.n).row = ap (λ (p : Place). p.row) c.place-of-place.ensures.value in
+    let a : c.place_of-place.result.row ≡ (place_numbered c.args.n).row = ap (λ (p : Place). p.row) c.place_of-place.ensures.value in
     omega (arith, (reached_ok _ (lawful_rows _ c.requires.lawful) (c.requires.marks.only _ c.if-not-marks-n.false)).0)
 
 pub returns : goal.returns
 returns c =
-    let a : c.place-of-place.result.row ≡ (place_numbered c.args.n).row = ap (λ (p : Place). p.row) c.place-of-place.ensures.value in
-    c.takes-name.ensures ∙ ap wants_name (ap (λ i. get_or c.args.rows.now i False) (c.from.ensures ∙ a)) ∙ marked_takes _ _ (lawful_rows _ c.requires.lawful) c.requires.marks _ c.if-not-marks-n.false
+    let a : c.place_of-place.result.row ≡ (place_numbered c.args.n).row = ap (λ (p : Place). p.row) c.place_of-place.ensures.value in
+    c.takes_name.ensures ∙ ap wants_name (ap (λ i. get_or c.args.rows.now i False) (c.from.ensures ∙ a)) ∙ marked_takes _ _ (lawful_rows _ c.requires.lawful) c.requires.marks _ c.if-not-marks-n.false

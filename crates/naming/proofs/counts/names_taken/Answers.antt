@@ -4,21 +4,21 @@ use Rattle.clausal.proofs.Rows.{lawful_rows}
 use Rattle.naming.specs.Order.{takers}
 use Rattle.naming.proofs.Ordered.{takers_none, takers_few, takers_count, taken_is}
 use Rattle.naming.proofs.counts.names_taken.Goals as goal
-use Rattle.naming.proofs.counts.names_taken.Goals.{then-is-taker, else-is-taker, then-level-eq0, else-level-eq0}
+use Rattle.naming.proofs.counts.names_taken.Goals.{then-is_taker, else-is_taker, then-level-eq0, else-level-eq0}
 
 pub loop-i-init : goal.loop-i-init
 loop-i-init c = omega (arith, ap length (takers_none c.args.rows.now c.args.level))
 
-pub overflow-add-count : goal.overflow-add-count
-overflow-add-count c =
+pub overflow_add-count : goal.overflow_add-count
+overflow_add-count c =
     let h = takers_few c.args.rows.now c.args.level c.loop-i.i in
     elim c.if-level-eq0.branch [ then-level-eq0 w ↦ omega (arith, w.count-is) | else-level-eq0 w ↦ omega (arith, w.count-is) ]
 
 pub loop-i-preserved : goal.loop-i-preserved
 loop-i-preserved c =
-    elim c.if-is-taker.branch [
-      | then-is-taker w ↦ omega (arith, w.count-is, takers_count c.args.rows.now c.args.level c.loop-i.i true w.if-is-taker.ensures)
-      | else-is-taker w ↦ omega (arith, w.count-is, takers_count c.args.rows.now c.args.level c.loop-i.i false w.if-is-taker.ensures)
+    elim c.if-is_taker.branch [
+      | then-is_taker w ↦ omega (arith, w.count-is, takers_count c.args.rows.now c.args.level c.loop-i.i true w.if-is_taker.ensures)
+      | else-is_taker w ↦ omega (arith, w.count-is, takers_count c.args.rows.now c.args.level c.loop-i.i false w.if-is_taker.ensures)
     ]
 
 pub returns : goal.returns

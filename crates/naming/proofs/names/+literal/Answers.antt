@@ -21,4 +21,4 @@ pub returns-in-Not : goal.returns-in-Not
 returns-in-Not t c = record { value = c.literal.ensures.value ∙ lit_not _ _ _ (lawful_rows _ c.requires.lawful) _ _ _ c.requires.row c.from.ensures _ c.in-Not.is; small = c.literal.ensures.small }
 
 pub returns-in-And : goal.returns-in-And
-returns-in-And t c = record { value = lit_name _ _ _ (lawful_rows _ c.requires.lawful) _ _ _ c.requires.row c.from.ensures c.in-And.is _ c.name-of.ensures.value; small = c.name-of.ensures.small }
+returns-in-And t c = record { value = lit_name _ _ _ (lawful_rows _ c.requires.lawful) _ _ _ c.requires.row c.from.ensures c.in-And.is _ c.name_of.ensures.value; small = c.name_of.ensures.small }

@@ -10,8 +10,8 @@ loop-n-init c =
     let v = c.visit.ensures in
     (visits _ (lawful_rows _ c.requires) _ _ _ _ _ _ v.marks v.todo (begun_by _ _ c.new-todo.ensures.entries), room_kept _ _ _ _ v.count (omega arith), v.slots)
 
-pub place-of-place-requires : goal.place-of-place-requires
-place-of-place-requires c = turn_small _ (lawful_rows _ c.requires) _ _ _ _ _ c.in-Some.ensures.entries c.from.ensures c.loop-n.invariant.0
+pub place_of-place-requires : goal.place_of-place-requires
+place_of-place-requires c = turn_small _ (lawful_rows _ c.requires) _ _ _ _ _ c.in-Some.ensures.entries c.from.ensures c.loop-n.invariant.0
 
 pub follow-requires : goal.follow-requires
 follow-requires c =
@@ -19,9 +19,9 @@ follow-requires c =
     let w = c.loop-n.invariant in
     record {
       lawful = c.requires;
-      row = turn_row _ (lawful_rows _ c.requires) _ _ _ _ _ h.entries c.from.ensures w.0 _ c.place-of-place.ensures.value;
-      level = c.place-of-place.ensures.level;
-      due = turn_due _ (lawful_rows _ c.requires) _ _ _ _ _ h.entries c.from.ensures w.0 _ c.place-of-place.ensures.value;
+      row = turn_row _ (lawful_rows _ c.requires) _ _ _ _ _ h.entries c.from.ensures w.0 _ c.place_of-place.ensures.value;
+      level = c.place_of-place.ensures.level;
+      due = turn_due _ (lawful_rows _ c.requires) _ _ _ _ _ h.entries c.from.ensures w.0 _ c.place_of-place.ensures.value;
       slots = h.room ∙ w.2;
       room = omega (arith, h.len, w.1);
     }
@@ -35,7 +35,7 @@ loop-n-smaller c =
 
 pub returns : goal.returns
 returns c =
-    let h = c.in-default.ensures in
+    let h = c.in_default.ensures in
     let a = ltb-false 0 c.loop-n.todo.len (sym h.some) in
     let z : c.loop-n.todo.len ≡ 0 = omega arith in
     ended_by _ (lawful_rows _ c.requires) _ _ (ap (λ k. take k (slots_of c.loop-n.todo)) z) c.loop-n.invariant.0

@@ -28,4 +28,4 @@ returns-in-Both c =
     given_both _ _ _ _ _ _ _ _ _ _ _ _ (c.in-Both.ensures ∙ shape_here _ (lawful_rows _ c.requires.lawful) _ _ _ c.requires.row c.from.ensures) c.literal-x.ensures.value c.literal-y.ensures.value c.implies.ensures c.implies-in-Both.ensures first (pushed _ _ _ 96 _ c.push-in-Both.ensures.taken room c.push-in-Both.ensures.items)
 
 pub returns-in-Either : goal.returns-in-Either
-returns-in-Either c = given_either _ _ _ _ _ _ _ _ _ _ (c.in-Either.ensures ∙ shape_here _ (lawful_rows _ c.requires.lawful) _ _ _ c.requires.row c.from.ensures) c.literal-x-in-Either.ensures.value c.literal-y-in-Either.ensures.value c.implies-either.ensures (pushed _ _ _ 96 _ c.push-in-Either.ensures.taken (omega arith) c.push-in-Either.ensures.items)
+returns-in-Either c = given_either _ _ _ _ _ _ _ _ _ _ (c.in-Either.ensures ∙ shape_here _ (lawful_rows _ c.requires.lawful) _ _ _ c.requires.row c.from.ensures) c.literal-x-in-Either.ensures.value c.literal-y-in-Either.ensures.value c.implies_either.ensures (pushed _ _ _ 96 _ c.push-in-Either.ensures.taken (omega arith) c.push-in-Either.ensures.items)

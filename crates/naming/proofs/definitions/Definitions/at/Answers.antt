@@ -8,4 +8,4 @@ pub returns : goal.returns
 returns c =
     let vs = c.args.self.now.levels in
     let h : c.number-number.result < length vs = omega arith in
-    c.as-slice.ensures.items ∙ sym (level_read items_of vs _ _ h) ∙ ap (level_items vs) c.number-number.ensures.same
+    c.as_slice.ensures.items ∙ sym (level_read items_of vs _ _ h) ∙ ap (level_items vs) c.number-number.ensures.same

@@ -14,8 +14,8 @@ use Rattle.naming.proofs.table.Table.add.Goals as goal
 pub returns-then-number-ge-RULES : goal.returns-then-number-ge-RULES
 returns-then-number-ge-RULES c = record { answer = answer_rules _ _ (omega (arith, rules_length c.args.self.now.rules, c.len-number.ensures.count)); step = refl }
 
-pub crowded-level-level-requires : goal.crowded-level-level-requires
-crowded-level-level-requires c =
+pub crowded_level-level-requires : goal.crowded_level-level-requires
+crowded_level-level-requires c =
     let t = c.args.self.now in
     record {
       held = held_few t.rules t.names t.boxes t.diamonds t.rules_lawful t.named (rows_of c.args.rule) c.rows-rows.ensures.lawful c.lengths-held.result c.lengths-held.ensures;
@@ -27,71 +27,62 @@ pub returns-then-level-lt-LEVELS : goal.returns-then-level-lt-LEVELS
 returns-then-level-lt-LEVELS c =
     let t = c.args.self.now in
     let few : length (held_rules t.rules) < 16 = omega (arith, rules_length t.rules, c.len-number.ensures.count) in
-    let e = c.crowded-level-level.ensures ∙ ap (crowded_by c.lengths-held.result) c.rows-rows.ensures.value ∙ crowd t.rules t.names t.boxes t.diamonds t.rules_lawful t.named (rows_of c.args.rule) c.rows-rows.ensures.lawful c.lengths-held.result c.lengths-held.ensures in
+    let e = c.crowded_level-level.ensures ∙ ap (crowded_by c.lengths-held.result) c.rows-rows.ensures.value ∙ crowd t.rules t.names t.boxes t.diamonds t.rules_lawful t.named (rows_of c.args.rule) c.rows-rows.ensures.lawful c.lengths-held.result c.lengths-held.ensures in
     record { answer = answer_level _ _ few _ e c.if-level-lt-LEVELS.true; step = refl }
 
-pub take-in-requires : goal.take-in-requires
-take-in-requires c =
+pub take_in-requires : goal.take_in-requires
+take_in-requires c =
     let t = c.args.self.now in
     let good : lawful c.rows-rows.result.now ≡ true = subst (λ (z : List Row). lawful z ≡ true) (sym c.rows-rows.ensures.value) c.rows-rows.ensures.lawful in
     record {
       whole = t.eight;
       bounds = (t.eight_boxes, t.eight_diamonds);
-      out = c.no-definitions-levels.ensures.whole;
+      out = c.no_definitions-levels.ensures.whole;
       lawful = good;
-      room = rooms t.rules t.names t.boxes t.diamonds t.rules_lawful t.named c.rows-rows.result.now good c.lengths-held.result c.lengths-held.ensures t.eight _ c.crowded-level-level.ensures c.if-level-lt-LEVELS.false;
+      room = rooms t.rules t.names t.boxes t.diamonds t.rules_lawful t.named c.rows-rows.result.now good c.lengths-held.result c.lengths-held.ensures t.eight _ c.crowded_level-level.ensures c.if-level-lt-LEVELS.false;
       boxes = given_few t.rules t.names t.boxes t.diamonds t.rules_lawful t.named boxed boxed_one t.boxes t.boxes_given;
       diamonds = given_few t.rules t.names t.boxes t.diamonds t.rules_lawful t.named diamonded diamonded_one t.diamonds t.diamonds_given;
       marks = c.reached-marks.ensures;
-      empty = c.no-definitions-levels.ensures.none;
+      empty = c.no_definitions-levels.ensures.none;
     }
 
-pub invariant-of-self : goal.invariant-of-self
-invariant-of-self c =
+pub invariant_of-self : goal.invariant_of-self
+invariant_of-self c =
     let t = c.args.self.now in
     let few : length (items_of t.rules) < 16 = omega (arith, c.len-number.ensures.count) in
     let rs = c.push.new.self in
-    let ns = c.take-in.new.names in
-    let bs = c.take-in.new.boxes in
-    let ds = c.take-in.new.diamonds in
-    let q = rules_pushed t.rules rs _ (rows_of c.args.rule) (pushed _ _ _ 16 _ c.push.ensures.taken few c.push.ensures.items) c.into-list.ensures.rows in
+    let ns = c.take_in.new.names in
+    let bs = c.take_in.new.boxes in
+    let ds = c.take_in.new.diamonds in
+    let q = rules_pushed t.rules rs _ (rows_of c.args.rule) (pushed _ _ _ 16 _ c.push.ensures.taken few c.push.ensures.items) c.into_list.ensures.rows in
     let k : c.len-number.result ≡ length (held_rules t.rules) = c.len-number.ensures.count ∙ sym (rules_length t.rules) in
-    let w = same_taken _ _ _ _ _ _ _ _ _ _ (level_items c.take-in.new.out) k c.rows-rows.ensures.value c.take-in.ensures in
+    let w = same_taken _ _ _ _ _ _ _ _ _ _ (level_items c.take_in.new.out) k c.rows-rows.ensures.value c.take_in.ensures in
     let good = c.rows-rows.ensures.lawful in
     let e : length ns ≡ 8 = omega arith in
     let f : length bs ≡ 8 = omega arith in
-    let g : length ds ≡ 8 = omega arith in (
-      e,
-      (
-        f,
-        (
-          g,
-          (
-            lawful_then t.rules t.names t.boxes t.diamonds t.rules_lawful t.named (rows_of c.args.rule) good t.boxes_given t.diamonds_given rs ns bs ds _ q w,
-            (
-              named_then t.rules t.names t.boxes t.diamonds t.rules_lawful t.named (rows_of c.args.rule) good t.boxes_given t.diamonds_given rs ns bs ds _ q w,
-              (
-                boxes_then t.rules t.names t.boxes t.diamonds t.rules_lawful t.named (rows_of c.args.rule) good t.boxes_given t.diamonds_given rs ns bs ds _ q w,
-                (diamonds_then t.rules t.names t.boxes t.diamonds t.rules_lawful t.named (rows_of c.args.rule) good t.boxes_given t.diamonds_given rs ns bs ds _ q w, tt),
-              ),
-            ),
-          ),
-        ),
-      ),
-    )
+    let g : length ds ≡ 8 = omega arith in
+    record {
+      eight = e;
+      eight_boxes = f;
+      eight_diamonds = g;
+      rules_lawful = lawful_then t.rules t.names t.boxes t.diamonds t.rules_lawful t.named (rows_of c.args.rule) good t.boxes_given t.diamonds_given rs ns bs ds _ q w;
+      named = named_then t.rules t.names t.boxes t.diamonds t.rules_lawful t.named (rows_of c.args.rule) good t.boxes_given t.diamonds_given rs ns bs ds _ q w;
+      boxes_given = boxes_then t.rules t.names t.boxes t.diamonds t.rules_lawful t.named (rows_of c.args.rule) good t.boxes_given t.diamonds_given rs ns bs ds _ q w;
+      diamonds_given = diamonds_then t.rules t.names t.boxes t.diamonds t.rules_lawful t.named (rows_of c.args.rule) good t.boxes_given t.diamonds_given rs ns bs ds _ q w;
+    }
 
 pub returns : goal.returns
 returns c =
     let t = c.args.self.now in
     let few : length (items_of t.rules) < 16 = omega (arith, c.len-number.ensures.count) in
     let rs = c.push.new.self in
-    let q = rules_pushed t.rules rs _ (rows_of c.args.rule) (pushed _ _ _ 16 _ c.push.ensures.taken few c.push.ensures.items) c.into-list.ensures.rows in
+    let q = rules_pushed t.rules rs _ (rows_of c.args.rule) (pushed _ _ _ 16 _ c.push.ensures.taken few c.push.ensures.items) c.into_list.ensures.rows in
     let k : c.len-number.result ≡ length (held_rules t.rules) = c.len-number.ensures.count ∙ sym (rules_length t.rules) in
-    let w = same_taken _ _ _ _ _ _ _ _ _ _ (level_items c.take-in.new.out) k c.rows-rows.ensures.value c.take-in.ensures in
+    let w = same_taken _ _ _ _ _ _ _ _ _ _ (level_items c.take_in.new.out) k c.rows-rows.ensures.value c.take_in.ensures in
     let good = c.rows-rows.ensures.lawful in
-    let e = c.crowded-level-level.ensures ∙ ap (crowded_by c.lengths-held.result) c.rows-rows.ensures.value ∙ crowd t.rules t.names t.boxes t.diamonds t.rules_lawful t.named (rows_of c.args.rule) good c.lengths-held.result c.lengths-held.ensures in
+    let e = c.crowded_level-level.ensures ∙ ap (crowded_by c.lengths-held.result) c.rows-rows.ensures.value ∙ crowd t.rules t.names t.boxes t.diamonds t.rules_lawful t.named (rows_of c.args.rule) good c.lengths-held.result c.lengths-held.ensures in
     let fewer : length (held_rules t.rules) < 16 = omega (arith, rules_length t.rules) in
     record {
       answer = answer_added _ _ fewer _ e c.if-level-lt-LEVELS.false _ k;
-      step = adds_then t.rules t.names t.boxes t.diamonds t.rules_lawful t.named (rows_of c.args.rule) good t.boxes_given t.diamonds_given rs c.take-in.new.names c.take-in.new.boxes c.take-in.new.diamonds _ q w;
+      step = adds_then t.rules t.names t.boxes t.diamonds t.rules_lawful t.named (rows_of c.args.rule) good t.boxes_given t.diamonds_given rs c.take_in.new.names c.take_in.new.boxes c.take_in.new.diamonds _ q w;
     }

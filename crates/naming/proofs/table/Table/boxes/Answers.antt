@@ -11,7 +11,7 @@ pub returns : goal.returns
 returns c =
     let t = c.args.self.now in
     let h : c.number-number.result < length t.boxes = omega arith in
-    let e : c.as-slice.result.now ≡ level_items t.boxes c.args.level.number = c.as-slice.ensures.items ∙ sym (level_read items_of t.boxes _ _ h) ∙ ap (level_items t.boxes) c.number-number.ensures.same in
+    let e : c.as_slice.result.now ≡ level_items t.boxes c.args.level.number = c.as_slice.ensures.items ∙ sym (level_read items_of t.boxes _ _ h) ∙ ap (level_items t.boxes) c.number-number.ensures.same in
     record {
       value = e;
       orderly = subst (λ (ms : List ModalClause). Orderly c.args.level.number ms) (sym e) (held_boxes_orderly t.rules t.names t.rules_lawful t.named t.boxes c.args.level.number (t.boxes_given c.args.level.number));
