@@ -2,7 +2,7 @@
 use Rattle.std.proofs.Common.{◌≡◌, ℕ, zero, suc, ◌+◌, ◌/◌, ◌%◌, ◌^◌, ◌<◌, ◌≤◌, Bool, true, false, cond, not, ◌&&◌, ◌||◌, eqb, ltb, sym, refl, ap, ◌∙◌, ap₂, inl, inr, arith, pow_pos}
 use native.Mathlib.Nat.{pow-succ'}
 use lib.Count.{ones, ones_step}
-use lib.Bits.{bit_or, or_lt}
+use lib.Bits.{or_lt}
 use Rattle.std.proofs.lemmas.Bool.{and_from, or_from, or_cases, or_left, or_right, eqb-true, eqb-false, lt-ltb}
 use Rattle.std.proofs.lemmas.Bool.Decides.{nat_tests}
 use Rattle.atoms.specs.Bits.{bit}

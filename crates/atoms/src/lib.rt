@@ -5,6 +5,8 @@
 //! number `a`; a number from 64 on is in no set. A clause is the set of its atoms and the set of the atoms that it
 //! negates; a valuation, a function from numbers to Bool, makes it true if it has one of the first or lacks one of the
 //! second (`makes`).
+#![tactic(auto)]
+
 pub mod assumptions;
 pub mod clauses;
 pub mod levels;

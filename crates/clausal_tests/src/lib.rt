@@ -96,7 +96,7 @@ mod tests {
             clause(1 << 18 | 1 << 19, 1 << 20),
             clause(1 << 20, 1 << 21),
         ];
-        assert_eq!(rt; added.definitions.at(root), &definitions);
+        assert_eq!(rt; added.definitions.at(root), definitions.as_slice());
         let every = ModalClause {
             name: 16,
             literal: Literal {
@@ -104,7 +104,7 @@ mod tests {
                 holds: true,
             },
         };
-        assert_eq!(rt; table.boxes(root), &[every]);
+        assert_eq!(rt; table.boxes(root), [every].as_slice());
         let some = ModalClause {
             name: 17,
             literal: Literal {
@@ -112,10 +112,13 @@ mod tests {
                 holds: false,
             },
         };
-        assert_eq!(rt; table.diamonds(root), &[some]);
+        assert_eq!(rt; table.diamonds(root), [some].as_slice());
         // the next rule takes the name after the last
         let next = table.add(rule(&LETTER)?)?;
-        assert_eq!(rt; next.definitions.at(root), &[clause(1 << p, 1 << 22)]);
+        assert_eq!(rt;
+            next.definitions.at(root),
+            [clause(1 << p, 1 << 22)].as_slice()
+        );
         Ok(())
     }
 }

@@ -1,5 +1,7 @@
 //! Reads a page from standard input, a rule and the drawing of a tree, and says whether the root of the tree meets the
 //! rule, with both in words.
+#![tactic(auto)]
+
 use anyhow::anyhow;
 use page::check::{Checked, check};
 use page::drawing::Drawing;

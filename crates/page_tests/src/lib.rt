@@ -1,5 +1,7 @@
 //! Pages that are refused, in the words that a user sees, and a rule whose rows are shared so often that asking them
 //! one by one would not end. A crate of its own, so that pages are not proved twice.
+#![tactic(auto)]
+
 #[cfg(test)]
 mod tests {
     use page::check::check as verdict;

@@ -1,4 +1,6 @@
 //! Rules read from bytes, at the edges of what is lawful. A crate of its own, so that the rules are not proved twice.
+#![tactic(auto)]
+
 #[cfg(test)]
 mod tests {
     use modal::faults::{ReadFault, RowStart, WriteFault};
