@@ -1,5 +1,5 @@
 -- Box and diamond clauses: by rising names, of atoms below 64, and none at the last level.
-use Rattle.std.proofs.Common.{◌≡◌, ℕ, suc, ◌+◌, ◌<◌, ◌≤◌, Bool, List, [], ◌∷◌, ◌++◌, length, get_or, sym, refl, ap, ◌∙◌, subst, inl, inr, arith}
+use Rattle.std.proofs.Common.{◌≡◌, ℕ, suc, ◌+◌, ◌<◌, ◌≤◌, Bool, List, [], ◌∷◌, ◌++◌, length, get_or, sym, refl, ap, subst, arith}
 use Rattle.lists.specs.Lists.{In, here, there}
 use Rattle.lists.proofs.Members.{no_members}
 use Rattle.atoms.specs.declared.clauses.Literal.{Literal}

@@ -4,6 +4,8 @@
 //! an atom of its level, and a few clauses say what the name implies; each rule has one name more, its handle.
 //! `specs/Places.antt` says which places are reached and which literal each has, `specs/Clausal.antt` which clauses
 //! they give, `specs/Trees.antt` which trees of valuations are complete. `laws` bears the theorems.
+#![tactic(auto)]
+
 pub mod faults;
 pub mod laws;
 pub mod modal_clauses;

@@ -1,5 +1,7 @@
 //! Rules taken in at the edges of a table, and a clausal form written out. A crate of its own, so that taking in a rule
 //! is not proved twice.
+#![tactic(auto)]
+
 #[cfg(test)]
 mod tests {
     use atoms::clauses::{Clause, Literal};

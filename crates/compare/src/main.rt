@@ -2,6 +2,8 @@
 //! valuations obey the assumptions and make every entry true, cores are parts of the assumptions and hold up under
 //! another oracle, all verdicts agree, and entries are refused exactly at the limits. With the argument `time` it
 //! measures how many questions a second the oracles answer.
+#![tactic(auto)]
+
 use std::{env, io};
 
 mod random;

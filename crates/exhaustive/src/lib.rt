@@ -3,6 +3,8 @@
 //! It tries every valuation of the named atoms that are not assumed, each atom in and out in turn, and asks for each
 //! whether it makes every entry true. It promises no order, and its core is always all that was assumed: an oracle to
 //! compare others with, small enough to be seen to be right.
+#![tactic(auto)]
+
 ghost use Rattle.exhaustive.specs.Exhausts.{Ends, exhaustive_entries};
 ghost use Rattle.oracle.specs.Oracles.{Solves, Clears, WholeCore};
 

@@ -2,6 +2,8 @@
 //!
 //! `items_of v` is what the list `v` holds, in the order in which the items came. The items fill the first slots of the
 //! array; what stands in the slots after them is no item, and no call shows it.
+#![tactic(auto)]
+
 ghost use Rattle.std.specs.Prelude.{◌≡◌, ◌≤◌, length};
 
 mod methods;

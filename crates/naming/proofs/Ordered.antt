@@ -1,6 +1,6 @@
 -- The places that take a name, in order, are those that are counted.
 -- the marks and the test
-use Rattle.std.proofs.Common.{◌≡◌, ℕ, zero, suc, ◌+◌, ◌-◌, ◌*◌, ◌/◌, ◌<◌, ◌≤◌, Bool, true, false, cond, ◌&&◌, eqb, List, [], ◌∷◌, ◌++◌, map, length, get_or, filter, sym, refl, ap, ◌∙◌, subst, inl, inr, zero-add, arith, length-append}
+use Rattle.std.proofs.Common.{◌≡◌, ℕ, zero, suc, ◌+◌, ◌*◌, ◌/◌, ◌<◌, ◌≤◌, Bool, true, false, cond, ◌&&◌, eqb, List, [], ◌∷◌, ◌++◌, map, length, get_or, filter, sym, refl, ap, ◌∙◌, subst, inl, inr, zero-add, arith, length-append}
 use Rattle.std.specs.List.{range_with_len}
 use Rattle.std.proofs.lemmas.List.FromFn.{map-range_with_len_more, length-range_with_len, get_or-range_with_len}
 use Rattle.std.proofs.lemmas.List.{map-id, length-map}
@@ -18,7 +18,7 @@ use Rattle.naming.specs.Order.{takers, takes}
 use Rattle.lists.proofs.Firsts.{first_at_lem, first_no}
 use Rattle.lists.proofs.Members.{in_kept, kept_in, some_from, some_in}
 use Rattle.lists.proofs.Onces.{once_kept, once_le}
-use Rattle.lists.specs.Lists.{In, Once, every, first_at, here, some, there}
+use Rattle.lists.specs.Lists.{In, Once, first_at, here, some, there}
 use Rattle.modal.specs.declared.row.Row.{Row}
 use Rattle.modal.specs.declared.row.Row.TheVariants.{False}
 use Rattle.std.proofs.lemmas.List.Elements.{filter-append}

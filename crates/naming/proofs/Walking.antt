@@ -1,19 +1,18 @@
 -- A walk over the places of a rule: what it keeps, and where it ends.
 -- how many are marked
-use Rattle.std.proofs.Common.{◌≡◌, ℕ, zero, suc, ◌+◌, ◌-◌, ◌<◌, ◌≤◌, Bool, true, false, cond, not, ◌⊎◌, List, [], ◌∷◌, ◌++◌, length, get_or, set, replicate, sym, refl, ap, ◌∙◌, subst, inl, inr, arith}
+use Rattle.std.proofs.Common.{◌≡◌, ℕ, zero, suc, ◌+◌, ◌<◌, ◌≤◌, Bool, true, false, cond, not, ◌⊎◌, List, [], ◌∷◌, ◌++◌, length, get_or, set, replicate, sym, refl, ap, ◌∙◌, subst, inl, inr, arith}
 use mathlib.Core.Bool.{false≢true}
 use Rattle.std.proofs.lemmas.List.{get_or-set_same, get_or-set_other, length-set, get_or_past, get_or-replicate, length-replicate}
 use Rattle.std.proofs.lemmas.Bool.{cases_eq, cases_lt, both_ways}
 use Rattle.clausal.proofs.Rows.{Lawful, reached_ok}
 use Rattle.clausal.specs.Places.{Reached, last, leads, next}
-use Rattle.clausal.specs.Trees.{root, size}
 use Rattle.clausal.specs.declared.places.Place.{Place}
 use Rattle.naming.proofs.Places.{Within, number_small, place_back, within}
 use Rattle.naming.specs.Marks.{Marks, marked}
 use Rattle.naming.specs.Numbers.{number_of, place_numbered}
 use Rattle.naming.specs.Walk.{Walking, last_of, leads_of}
 use Rattle.lists.proofs.Members.{in_either, in_left, in_one, in_right}
-use Rattle.lists.specs.Lists.{In, every, here, there}
+use Rattle.lists.specs.Lists.{In, here, there}
 use Rattle.modal.specs.declared.row.Row.{Row}
 use Rattle.modal.specs.declared.row.Row.TheVariants.{And, Box, Diamond, False, Letter, Not, Or, True}
 

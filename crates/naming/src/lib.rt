@@ -4,6 +4,8 @@
 //! first: level by level, in the order of row, plus before minus, the handle last. Names never become free again, so the
 //! lowest free name is the one after the last that is taken. Then the names' definitions, box clauses and diamond
 //! clauses are written (`writes`). What a table holds is the clausal form of its rules in every value of its type.
+#![tactic(auto)]
+
 mod all;
 mod clauses;
 mod counts;

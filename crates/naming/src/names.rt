@@ -10,9 +10,9 @@ ghost use Rattle.naming.specs.Names.{lit_in, names_for};
 
 use crate::counts::is_taker;
 use crate::numbers::{LEVEL, place_of};
-use fixed_list::ArrayVec;
 use atoms::clauses::Literal;
 use clausal::names::Name;
+use fixed_list::ArrayVec;
 use modal::row::Row;
 
 /// The names of one level, atom 16 first.

@@ -10,11 +10,11 @@ ghost use Rattle.naming.specs.Names.{lit_in, clauses_own, modal_own, InRule};
 
 use crate::clauses::{implies, implies_either};
 use crate::names::{FIRST_NAME, literal};
-use fixed_list::ArrayVec;
 use atoms::clauses::Clause;
 use clausal::modal_clauses::ModalClause;
 use clausal::names::Name;
 use clausal::shapes::Shape;
+use fixed_list::ArrayVec;
 use modal::row::Row;
 
 /// The definitions that one rule gives at one level: at most two for each name.

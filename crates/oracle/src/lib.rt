@@ -7,6 +7,8 @@
 //!
 //! The store keeps each level's entries in an array with room for 97 definitions and 128 learnt entries, so `take`
 //! refuses exactly at these limits and never for want of memory.
+#![tactic(auto)]
+
 ghost use Rattle.std.specs.Prelude.{◌≡◌, ℕ, true, List, Decides};
 ghost use Rattle.atoms.specs.declared.clauses.Entry.{Entry};
 ghost use Rattle.oracle.specs.Oracles.{Taken, Solves, Forgets, Clears, Satisfiable, Alike};

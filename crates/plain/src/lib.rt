@@ -5,6 +5,8 @@
 //! drops each at the first entry that it makes false. `Counted` of `specs/Counts.antt` says which valuation that
 //! finds. It misses none, since a valuation's entries depend only on the named atoms (`complete` of
 //! `proofs/Completing.antt`).
+#![tactic(auto)]
+
 ghost use Rattle.std.specs.Prelude.{◌≡◌, MatchOption};
 ghost use Rattle.oracle.specs.Oracles.{Finds, Solves, Clears, WholeCore, valuation_in};
 ghost use Rattle.plain.specs.Counts.{Part, Counted, NextPart};

@@ -3,6 +3,8 @@
 //! `entries_of s` is what the stack `s` holds, oldest first, and `below_top s` the same without the top. The entries fill
 //! the first slots; a slot after them may hold anything. A stack has at most as many entries as it has slots. After each
 //! call that alters it, the number of slots is the same (`room`), and it still has the slice that was lent (`lent`).
+#![tactic(auto)]
+
 ghost use Rattle.std.specs.Prelude.{◌≤◌, length};
 
 mod methods;

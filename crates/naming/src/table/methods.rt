@@ -13,12 +13,12 @@ use crate::names::{FIRST_NAME, Names, is_handle};
 use crate::reach::reached;
 use crate::table::{Added, Table};
 use crate::writes::{LevelClauses, ModalClauses};
-use fixed_list::ArrayVec;
 use atoms::clauses::{Clause, Literal};
 use atoms::levels::Level;
 use clausal::faults::AddFault;
 use clausal::modal_clauses::ModalClause;
 use clausal::names::Name;
+use fixed_list::ArrayVec;
 use modal::row_list::RowList;
 use modal::rule::Rule;
 

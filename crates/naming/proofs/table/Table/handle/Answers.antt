@@ -1,4 +1,4 @@
-use Rattle.std.proofs.Common.{◌≡◌, ℕ, ◌<◌, true, false, List, length, get_or, sym, ap, ◌∙◌, subst, arith, below_more}
+use Rattle.std.proofs.Common.{◌≡◌, ◌<◌, true, List, length, get_or, sym, ap, ◌∙◌, subst, arith, below_more}
 use Rattle.fixed_list.specs.Items.{items_of}
 use Rattle.clausal.specs.States.{is_handle_of}
 use Rattle.clausal.specs.declared.names.Name.{Name}

@@ -1,6 +1,5 @@
-use Rattle.std.proofs.Common.{◌≡◌, ◌<◌, List, length, get_or, ap, ◌∙◌, subst, arith}
+use Rattle.std.proofs.Common.{◌≡◌, ◌<◌, length, get_or, ap, ◌∙◌, arith}
 use Rattle.fixed_list.specs.Items.{items_of}
-use Rattle.modal.specs.declared.row_list.RowList.{RowList}
 use Rattle.naming.proofs.Held.{rules_length, rows_held}
 use Rattle.naming.proofs.table.Table.rows.Goals as goal
 
