@@ -6,7 +6,7 @@ use atoms::levels::Level;
 use atoms::sets::AtomSet;
 use exhaustive::Exhaustive;
 use oracle::answers::Solved;
-use oracle::lists::{DEFINITIONS, LEARNT};
+use oracle::entry_list::{DEFINITIONS, LEARNT};
 use oracle::{Oracle, satisfiable};
 use plain::Plain;
 use search::Searcher;

@@ -2,7 +2,7 @@
 use crate::random::{Random, Shape};
 use atoms::clauses::Mark;
 use atoms::levels::Level;
-use oracle::lists::{DEFINITIONS, LEARNT};
+use oracle::entry_list::{DEFINITIONS, LEARNT};
 use oracle::{Oracle, satisfiable};
 use plain::Plain;
 use search::Searcher;

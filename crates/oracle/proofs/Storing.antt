@@ -9,7 +9,7 @@ use Rattle.atoms.specs.declared.clauses.Mark.{Mark}
 use Rattle.atoms.specs.declared.clauses.Mark.TheVariants.{Definition, Learnt}
 use Rattle.oracle.specs.Oracles.{room, Taken}
 use Rattle.oracle.specs.Stores.{held_of, entries_in}
-use Rattle.oracle.specs.declared.lists.EntryList.{EntryList}
+use Rattle.oracle.specs.declared.entry_list.EntryList.{EntryList}
 
 -- how long a level's list is, by the two counts
 pub counted : (slots : List Entry) (len : ℕ) → len ≤ length slots → length (learnt (take len slots)) + length (definitions (take len slots)) ≡ len

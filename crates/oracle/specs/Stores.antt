@@ -1,7 +1,7 @@
 -- The entries that a store holds.
 use Rattle.std.specs.Prelude.{ℕ, List, [], map, take, slice_index_or}
 use Rattle.atoms.specs.declared.clauses.Entry.{Entry}
-use Rattle.oracle.specs.declared.lists.EntryList.{EntryList}
+use Rattle.oracle.specs.declared.entry_list.EntryList.{EntryList}
 use Rattle.oracle.specs.declared.store.Store.{Store}
 
 -- the entries of one level

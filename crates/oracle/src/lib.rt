@@ -18,7 +18,7 @@ use atoms::clauses::Entry;
 use atoms::levels::Level;
 
 pub mod answers;
-pub mod lists;
+pub mod entry_list;
 pub mod store;
 
 use answers::Solved;

@@ -2,7 +2,7 @@ ghost use Rattle.std.specs.Prelude.{◌≡◌};
 ghost use Rattle.oracle.specs.Oracles.{Taken, Forgets, Clears};
 ghost use Rattle.oracle.specs.Stores.{entries_of};
 
-use crate::lists::EntryList;
+use crate::entry_list::EntryList;
 use atoms::clauses::Entry;
 use atoms::levels::{LEVELS, Level};
 

@@ -3,7 +3,7 @@ use Rattle.std.proofs.lemmas.List.{length-set}
 use Rattle.std.proofs.lemmas.Bool.Decides.{nat_tests}
 use Rattle.atoms.specs.Clauses.{definitions}
 use Rattle.oracle.specs.Stores.{entries_in, held_of}
-use Rattle.oracle.specs.declared.lists.EntryList.{EntryList}
+use Rattle.oracle.specs.declared.entry_list.EntryList.{EntryList}
 use Rattle.oracle.proofs.Storing.{entries_here, entries_other, entries_read, entries_past}
 use Rattle.oracle.proofs.store.Store.forget.Goals as goal
 

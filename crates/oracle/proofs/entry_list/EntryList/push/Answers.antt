@@ -5,9 +5,9 @@ use Rattle.atoms.specs.declared.clauses.Mark.{Mark}
 use Rattle.atoms.specs.declared.clauses.Mark.TheVariants.{Definition, Learnt}
 use Rattle.oracle.specs.Oracles.{room}
 use Rattle.oracle.specs.Stores.{held_of}
-use Rattle.oracle.specs.declared.lists.EntryList.{EntryList}
+use Rattle.oracle.specs.declared.entry_list.EntryList.{EntryList}
 use Rattle.oracle.proofs.Storing.{counted, grown_definition, grown_learnt}
-use Rattle.oracle.proofs.lists.EntryList.push.Goals as goal
+use Rattle.oracle.proofs.entry_list.EntryList.push.Goals as goal
 
 -- where there is room for an entry there is a slot
 inside : (r : EntryList) (m : Mark) → length r.slots ≡ 225 → room m (held_of r) ≡ true → r.len < 225

@@ -1,8 +1,8 @@
 use Rattle.std.proofs.Common.{length, take, ap, ◌∙◌, arith}
 use Rattle.atoms.specs.Clauses.{definitions, learnt, is_definition}
-use Rattle.oracle.specs.declared.lists.EntryList.{EntryList}
+use Rattle.oracle.specs.declared.entry_list.EntryList.{EntryList}
 use Rattle.oracle.proofs.Storing.{kept_again, kept_none}
-use Rattle.oracle.proofs.lists.EntryList.forget.Goals as goal
+use Rattle.oracle.proofs.entry_list.EntryList.forget.Goals as goal
 
 pub invariant_of-self : goal.invariant_of-self
 invariant_of-self c =

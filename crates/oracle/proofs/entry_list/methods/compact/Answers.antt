@@ -4,8 +4,8 @@ use Rattle.std.proofs.lemmas.List.{get_or_default}
 use Rattle.atoms.specs.Clauses.{definitions}
 use Rattle.oracle.proofs.Storing.{stays, goes}
 use Rattle.atoms.proofs.Making.{blank}
-use Rattle.oracle.proofs.lists.methods.compact.Goals as goal
-use Rattle.oracle.proofs.lists.methods.compact.Goals.{in-Definition, in_default}
+use Rattle.oracle.proofs.entry_list.methods.compact.Goals as goal
+use Rattle.oracle.proofs.entry_list.methods.compact.Goals.{in-Definition, in_default}
 
 pub loop-i-preserved : goal.loop-i-preserved
 loop-i-preserved c =
