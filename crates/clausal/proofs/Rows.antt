@@ -5,7 +5,7 @@ use mathlib.Core.Bool.{false≢true}
 use Rattle.std.proofs.lemmas.List.{append-nil, get_or_at, take_at, get_or-take, length-take-le, get_or_push, length_push}
 use Rattle.std.proofs.lemmas.Bool.{and_parts, ltb-true, leb-true}
 use Rattle.modal.specs.Rows.{children_earlier, letter_in_range, row_fits, all_fit}
-use Rattle.modal.proofs.Built.{get_d_built, some_rows, few_rows, placed, form_at}
+use Rattle.modal.proofs.Built.{get_or_built, some_rows, few_rows, placed, form_at}
 use Rattle.clausal.specs.Clausal.{shape, wants_name}
 use Rattle.clausal.specs.Places.{Reached, last, leads, literal_of, literals_of, next}
 use Rattle.clausal.specs.States.{signed}
@@ -71,7 +71,7 @@ depths_fit : (ds : List ℕ) (rs : List Row) → all_fit ds rs ≡ true → (k :
 depths_fit ds [] h k l = absurd (omega arith)
 depths_fit ds (r ∷ rs) h zero l =
     let d : depth_of ds r ≤ 7 = leb-true (depth_of ds r) 7 (and_parts _ (leb (depth_of ds r) 7) (and_parts (row_fits ds r) _ h).0).1 in
-    let e : get_or (built depth_of (ds ++ depth_of ds r ∷ []) rs) (length ds) 0 ≡ depth_of ds r = get_d_built depth_of (ds ++ depth_of ds r ∷ []) rs (length ds) 0 (omega (arith, length_push ds (depth_of ds r))) ∙ get_or_push ds (depth_of ds r) 0 (length ds) refl in
+    let e : get_or (built depth_of (ds ++ depth_of ds r ∷ []) rs) (length ds) 0 ≡ depth_of ds r = get_or_built depth_of (ds ++ depth_of ds r ∷ []) rs (length ds) 0 (omega (arith, length_push ds (depth_of ds r))) ∙ get_or_push ds (depth_of ds r) 0 (length ds) refl in
     rw (add-zero, e) d
 depths_fit ds (r ∷ rs) h (suc k) l =
     let e : length (ds ++ depth_of ds r ∷ []) + k ≡ length ds + suc k = omega (arith, length_push ds (depth_of ds r)) in

@@ -4,7 +4,7 @@ use Rattle.std.proofs.lemmas.List.Elements.{filter-append}
 use Rattle.std.proofs.lemmas.List.{append-nil, get_or_append_left}
 use Rattle.std.proofs.lemmas.Bool.{cases_lt}
 use Rattle.lists.specs.Lists.{In, here, there}
-use Rattle.lists.proofs.Members.{every_in, in_kept, kept_in, kept_nothing, get_d_in}
+use Rattle.lists.proofs.Members.{every_in, in_kept, kept_in, kept_nothing, get_or_in}
 use Rattle.modal.specs.declared.row.Row.{Row}
 use Rattle.atoms.specs.Clauses.{makes_all, is_learnt, is_definition, learnt, definitions}
 use Rattle.atoms.specs.declared.clauses.Entry.{Entry}
@@ -71,7 +71,7 @@ module _ (st : State) (es : ℕ → List Entry) (n : Learns st es) where
       let (j, q) = kept_in is_learnt (es l) i in
       let (k, b, z) = placed (es l) j in
       elim (cases_lt k (length (st.entries l))) [
-        | inl c ↦ (let (new, p, _) = n.grown l in inl (in_kept is_learnt (subst (λ (x : Entry). In x (st.entries l)) (sym (get_or_append_left (st.entries l) new e k c) ∙ ap (λ (xs : List Entry). get_or xs k e) (sym p) ∙ z) (get_d_in (st.entries l) k e c)) q))
+        | inl c ↦ (let (new, p, _) = n.grown l in inl (in_kept is_learnt (subst (λ (x : Entry). In x (st.entries l)) (sym (get_or_append_left (st.entries l) new e k c) ∙ ap (λ (xs : List Entry). get_or xs k e) (sym p) ∙ z) (get_or_in (st.entries l) k e c)) q))
         | inr c ↦ inr (k, n.taught l k e c b z)
       ]
     where

@@ -4,13 +4,13 @@ use lib.Seq.{take-append-le}
 use Rattle.std.proofs.lemmas.List.{get_or_append_left, get_or-append_right}
 use Rattle.std.proofs.lemmas.Bool.{cases_lt}
 use Rattle.lists.specs.Lists.{In}
-use Rattle.lists.proofs.Members.{in_kept, get_d_in}
+use Rattle.lists.proofs.Members.{in_kept, get_or_in}
 use Rattle.atoms.specs.Clauses.{Valuation, makes, makes_all, is_learnt, learnt}
 use Rattle.atoms.specs.declared.clauses.Entry.{Entry}
 use Rattle.law.specs.Verdicts.{Needed}
 
 no_learnt : (es : List Entry) → learnt es ≡ [] → (i : ℕ) (e : Entry) → i < length es → get_or es i e ≡ e → is_learnt e ≡ true → ⊥
-no_learnt es z i e h q le = elim (subst (In e) z (in_kept is_learnt (subst (λ x. In x es) q (get_d_in es i e h)) le)) [ ]
+no_learnt es z i e h q le = elim (subst (In e) z (in_kept is_learnt (subst (λ x. In x es) q (get_or_in es i e h)) le)) [ ]
 
 -- nothing learnt, nothing to show
 pub needed_definitions : (es : List Entry) → learnt es ≡ [] → Needed es

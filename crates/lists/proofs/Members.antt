@@ -74,14 +74,14 @@ module _ {A : Type 0} where
   in_around (z ∷ xs) ys y here = inr here
   in_around (z ∷ xs) ys y (there i) = elim (in_around xs ys y i) [ inl e ↦ inl e | inr j ↦ inr (there j) ]
 
-pub get_d_in : {A : Type 0} (xs : List A) (i : ℕ) (d : A) → i < length xs → In (get_or xs i d) xs
-get_d_in [] i d h = absurd (omega arith)
-get_d_in (x ∷ xs) zero d h = here
-get_d_in (x ∷ xs) (suc i) d h = there (get_d_in xs i d (omega arith))
+pub get_or_in : {A : Type 0} (xs : List A) (i : ℕ) (d : A) → i < length xs → In (get_or xs i d) xs
+get_or_in [] i d h = absurd (omega arith)
+get_or_in (x ∷ xs) zero d h = here
+get_or_in (x ∷ xs) (suc i) d h = there (get_or_in xs i d (omega arith))
 
-pub in_get_d : {A : Type 0} (d : A) {x : A} {xs : List A} → In x xs → (j : ℕ) × (get_or xs j d ≡ x)
-in_get_d d here = (0, refl)
-in_get_d d (there i) = let (j, e) = in_get_d d i in (suc j, e)
+pub in_get_or : {A : Type 0} (d : A) {x : A} {xs : List A} → In x xs → (j : ℕ) × (get_or xs j d ≡ x)
+in_get_or d here = (0, refl)
+in_get_or d (there i) = let (j, e) = in_get_or d i in (suc j, e)
 
 pub in_one : {A : Type 0} {x y : A} → In x (y ∷ []) → y ≡ x
 in_one here = refl

@@ -8,10 +8,10 @@ use Rattle.modal.specs.declared.row.Row.{Row}
 use Rattle.modal.specs.declared.row.Row.TheVariants.{False, True, Letter, Not, And, Or, Box, Diamond}
 
 -- what stands there so far stays
-pub get_d_built : {X : Type 0} (f : List X → Row → X) (xs : List X) (rs : List Row) (i : ℕ) (d : X) → i < length xs → get_or (built f xs rs) i d ≡ get_or xs i d
-get_d_built f xs [] i d h = refl
-get_d_built f xs (r ∷ rs) i d h =
-    get_d_built f (xs ++ f xs r ∷ []) rs i d (omega (arith, length_push xs (f xs r))) ∙ get_or_append_left xs (f xs r ∷ []) d i h
+pub get_or_built : {X : Type 0} (f : List X → Row → X) (xs : List X) (rs : List Row) (i : ℕ) (d : X) → i < length xs → get_or (built f xs rs) i d ≡ get_or xs i d
+get_or_built f xs [] i d h = refl
+get_or_built f xs (r ∷ rs) i d h =
+    get_or_built f (xs ++ f xs r ∷ []) rs i d (omega (arith, length_push xs (f xs r))) ∙ get_or_append_left xs (f xs r ∷ []) d i h
 
 pub built_push : {X : Type 0} (f : List X → Row → X) (xs : List X) (rs : List Row) (r : Row) → built f xs (rs ++ r ∷ []) ≡ built f xs rs ++ f (built f xs rs) r ∷ []
 built_push f xs [] r = refl
@@ -55,9 +55,9 @@ form_from fs (r ∷ rs) h zero l =
     let more = fs ++ form_of fs r ∷ [] in
     let long = length_push fs (form_of fs r) in
     rw add-zero
-    (get_d_built form_of more rs (length fs) falsum (omega arith)
+    (get_or_built form_of more rs (length fs) falsum (omega arith)
     ∙ get_or_push fs (form_of fs r) falsum (length fs) refl
-    ∙ same_form fs (built form_of more rs) (length fs) r (rw add-zero at (h 0 l)) (λ c k. sym (get_d_built form_of more rs c falsum (omega arith) ∙ get_or_append_left fs (form_of fs r ∷ []) falsum c k)))
+    ∙ same_form fs (built form_of more rs) (length fs) r (rw add-zero at (h 0 l)) (λ c k. sym (get_or_built form_of more rs c falsum (omega arith) ∙ get_or_append_left fs (form_of fs r ∷ []) falsum c k)))
 form_from fs (r ∷ rs) h (suc i) l =
     let more = fs ++ form_of fs r ∷ [] in
     let e : (k : ℕ) → length more + k ≡ length fs + suc k = λ k. omega (arith, length_push fs (form_of fs r)) in

@@ -21,7 +21,7 @@ use Rattle.atoms.specs.Clauses.{clause_from, learnt}
 use Rattle.atoms.specs.declared.clauses.Clause.{Clause}
 use Rattle.atoms.specs.declared.clauses.Entry.{Entry}
 use Rattle.atoms.specs.declared.clauses.Literal.{Literal}
-use Rattle.lists.proofs.Members.{get_d_in, in_get_d}
+use Rattle.lists.proofs.Members.{get_or_in, in_get_or}
 use Rattle.lists.specs.Lists.{In, Matches, here, more, none, there}
 use Rattle.modal.specs.declared.row.Row.{Row}
 use Rattle.modal.specs.declared.row.Row.TheVariants.{False}
@@ -75,7 +75,7 @@ module _ (st : State) (rows : List Row) (after : State) (clauses : ℕ → List 
   ]
     where
       own : (j : ℕ) → Own r (get_or (ours l) j free)
-      own j = elim (cases_lt j (length (ours l))) [ inl k ↦ mine_own l (own_in r rows l (get_d_in (ours l) j free k)) | inr k ↦ subst (Own r) (sym (get_or_past (ours l) j free k)) tt ]
+      own j = elim (cases_lt j (length (ours l))) [ inl k ↦ mine_own l (own_in r rows l (get_or_in (ours l) j free k)) | inr k ↦ subst (Own r) (sym (get_or_past (ours l) j free k)) tt ]
 
   extends : Extends st rows after
   extends = record { rules = pushed; slots = λ l i. subst (λ xs. (get_or xs i free ≡ get_or (st.names l) i free) ⊎ ((get_or (st.names l) i free ≡ free) × Own r (get_or xs i free))) (sym (g.names l)) (slot l i) }
@@ -101,7 +101,7 @@ module _ (st : State) (rows : List Row) (after : State) (clauses : ℕ → List 
   modal_new under l m x (inr (_, e)) = subst (λ z. modal_name under after l m z ≡ modal_own under (after.names (suc l)) r rows m z) (sym e) refl
 
   old_proper : (l : ℕ) {x : Name} → In x (st.names l) → Proper st l x
-  old_proper l i = let (j, e) = in_get_d free i in subst (Proper st l) e (before.proper l j)
+  old_proper l i = let (j, e) = in_get_or free i in subst (Proper st l) e (before.proper l j)
 
   modals_new : (under : Shape → List ℕ) (l : ℕ) → modals_at under after l ≡ modals_at under st l ++ gather (modal_own under (after.names (suc l)) r rows) (16 + length (st.names l)) (ours l)
   modals_new under l = ap (gather (modal_name under after l) 16) (g.names l) ∙ (gather_append (modal_name under after l) 16 (st.names l) (ours l) ∙ ap₂ ◌++◌ (gather_in_same _ _ 16 (st.names l) (λ m x i. modal_old under l m x (old_proper l i))) (gather_in_same _ _ (16 + length (st.names l)) (ours l) (λ m x i. modal_new under l m x (own_in r rows l i))))

@@ -2,7 +2,7 @@
 use Rattle.std.proofs.Common.{◌≡◌, ℕ, ◌+◌, ◌<◌, Bool, true, false, not, ◌⊎◌, List, length, get_or, sym, ap, ◌∙◌, subst, inl, inr}
 use Rattle.std.proofs.lemmas.Bool.{cond-true, cond-false}
 use Rattle.lists.proofs.Firsts.{first_at_lem, some_no}
-use Rattle.lists.proofs.Members.{some_from, get_d_in}
+use Rattle.lists.proofs.Members.{some_from, get_or_in}
 use Rattle.modal.specs.declared.row.Row.{Row}
 use Rattle.modal.specs.declared.row.Row.TheVariants.{False, Not, And, Or, Box, Diamond}
 use Rattle.clausal.specs.Places.{is_place_of, name_in, literal_of, literals_of}
@@ -12,7 +12,7 @@ use Rattle.clausal.proofs.Rows.{RowOk, Lawful, literal_is}
 use Rattle.naming.specs.Names.{lit_in}
 
 pub name_first : (xs : List Name) (r k : ℕ) (s : Bool) (i : ℕ) → i < length xs → is_place_of r k s (get_or xs i free) ≡ true → ((j : ℕ) → j < i → is_place_of r k s (get_or xs j free) ≡ false) → 16 + i ≡ name_in xs r k s
-name_first xs r k s i h t f = sym (cond-true _ _ _ (some_from (is_place_of r k s) (get_d_in xs i free h) t) ∙ ap (λ n. 16 + n) (first_at_lem (is_place_of r k s) free xs i h t f))
+name_first xs r k s i h t f = sym (cond-true _ _ _ (some_from (is_place_of r k s) (get_or_in xs i free h) t) ∙ ap (λ n. 16 + n) (first_at_lem (is_place_of r k s) free xs i h t f))
 
 pub name_none : (xs : List Name) (r k : ℕ) (s : Bool) → ((j : ℕ) → j < length xs → is_place_of r k s (get_or xs j free) ≡ false) → 0 ≡ name_in xs r k s
 name_none xs r k s f = sym (cond-false _ _ _ (some_no (is_place_of r k s) free xs f))

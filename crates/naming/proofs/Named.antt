@@ -17,7 +17,7 @@ use Rattle.naming.proofs.Places.{number_back, place_back, within}
 use Rattle.naming.specs.Names.{names_for, names_from, places_named}
 use Rattle.naming.specs.Numbers.{number_of, place_numbered}
 use Rattle.naming.specs.Order.{takers}
-use Rattle.lists.proofs.Members.{no_members, every_in, get_d_in, in_either, in_left, in_right}
+use Rattle.lists.proofs.Members.{no_members, every_in, get_or_in, in_either, in_left, in_right}
 use Rattle.lists.proofs.Onces.{once_append}
 use Rattle.lists.specs.Lists.{In, Once, every, here, there}
 use Rattle.modal.specs.Rows.{lawful}
@@ -107,8 +107,8 @@ expect_push r (x ∷ rs) rows l = ap (λ z. names_for r x l ++ z) (expect_push (
 pub once_index : (xs : List Name) → Once xs → (i j : ℕ) → get_or xs i free ≡ get_or xs j free → (get_or xs i free ≡ free) ⊎ (i ≡ j)
 once_index [] o i j e = inl refl
 once_index (x ∷ xs) o zero zero e = inr refl
-once_index (x ∷ xs) o zero (suc j) e = elim (cases_lt j (length xs)) [ inl h ↦ absurd (o.0 (subst (λ z. In z xs) (sym e) (get_d_in xs j free h))) | inr h ↦ inl (e ∙ get_or_past xs j free h) ]
-once_index (x ∷ xs) o (suc i) zero e = elim (cases_lt i (length xs)) [ inl h ↦ absurd (o.0 (subst (λ z. In z xs) e (get_d_in xs i free h))) | inr h ↦ inl (get_or_past xs i free h) ]
+once_index (x ∷ xs) o zero (suc j) e = elim (cases_lt j (length xs)) [ inl h ↦ absurd (o.0 (subst (λ z. In z xs) (sym e) (get_or_in xs j free h))) | inr h ↦ inl (e ∙ get_or_past xs j free h) ]
+once_index (x ∷ xs) o (suc i) zero e = elim (cases_lt i (length xs)) [ inl h ↦ absurd (o.0 (subst (λ z. In z xs) e (get_or_in xs i free h))) | inr h ↦ inl (get_or_past xs i free h) ]
 once_index (x ∷ xs) o (suc i) (suc j) e = elim (once_index xs o.1 i j e) [ inl q ↦ inl q | inr q ↦ inr (ap suc q) ]
 
 module _ (r : ℕ) (rows : List Row) (ok : Lawful rows) (l : ℕ) where
@@ -136,7 +136,7 @@ expect_length r (rows ∷ rs) ok l =
 -- names taken in order are a naming of the rules
 module _ (st : State) (few : length st.rules ≤ 16) (ok : every lawful st.rules ≡ true) (room : (l : ℕ) → length (st.names l) ≤ 48) (named : (l : ℕ) → st.names l ≡ names_from 0 st.rules l) where
   rule_lawful : (r : ℕ) → r < length st.rules → lawful (rule_at st r) ≡ true
-  rule_lawful r h = every_in lawful (get_d_in st.rules r [] h) ok
+  rule_lawful r h = every_in lawful (get_or_in st.rules r [] h) ok
 
   expected : (l : ℕ) {x : Name} → In x (st.names l) → (r : ℕ) × (r < length st.rules) × In x (names_for r (rule_at st r) l)
   expected l {x} i = let (r, h, m) = expect_from 0 st.rules l (subst (In x) (named l) i) in (r, h, subst (λ n. In x (names_for n (rule_at st r) l)) (zero-add r) m)
@@ -155,7 +155,7 @@ module _ (st : State) (few : length st.rules ≤ 16) (ok : every lawful st.rules
     held = few;
     all_lawful = rule_lawful;
     room = room;
-    proper = λ l i. elim (cases_lt i (length (st.names l))) [ inl h ↦ is_proper l _ (get_d_in (st.names l) i free h) | inr h ↦ subst (Proper st l) (sym (get_or_past (st.names l) i free h)) tt ];
+    proper = λ l i. elim (cases_lt i (length (st.names l))) [ inl h ↦ is_proper l _ (get_or_in (st.names l) i free h) | inr h ↦ subst (Proper st l) (sym (get_or_past (st.names l) i free h)) tt ];
     named = λ r p h x t. taken p.level r h (in_own r (rule_at st r) p.level (lawful_rows _ (rule_lawful r h)) p.row p.plus x t);
     handled = λ r h. taken 0 r h (handle_in r (rule_at st r) 0 refl);
     once = λ l. once_index (st.names l) (subst Once (sym (named l)) (expect_once 0 st.rules l));

@@ -16,7 +16,7 @@ use Rattle.naming.proofs.Places.{within}
 use Rattle.naming.specs.Names.{InRule, clauses_own, modal_own, names_for}
 use Rattle.naming.specs.TakenIn.{TakenIn}
 use Rattle.atoms.specs.declared.clauses.Clause.{Clause}
-use Rattle.lists.proofs.Members.{get_d_in}
+use Rattle.lists.proofs.Members.{get_or_in}
 use Rattle.lists.specs.Lists.{In, here, there}
 use Rattle.modal.specs.declared.row.Row.{Row}
 use Rattle.modal.specs.declared.row.Row.TheVariants.{And, Box, Diamond, False, Letter, Not, Or, True}
@@ -28,7 +28,7 @@ module _ (r : ℕ) (rows : List Row) (ok : Lawful rows) (l : ℕ) where
 
   pub own_rule : (n n' : List Name) → n' ≡ n ++ names_for r rows l → (i : ℕ) → length n ≤ i → InRule rows (get_or n' i free)
   own_rule n n' e i h = subst (InRule rows) (sym (ap (λ t. get_or t i free) e ∙ get_or-append_right n (names_for r rows l) (length n) i free refl h)) (elim (cases_lt (i - length n) (length (names_for r rows l))) [
-    | inl k ↦ mine_in _ (own_in r rows l (get_d_in (names_for r rows l) (i - length n) free k))
+    | inl k ↦ mine_in _ (own_in r rows l (get_or_in (names_for r rows l) (i - length n) free k))
     | inr k ↦ subst (InRule rows) (sym (get_or_past (names_for r rows l) (i - length n) free k)) tt
   ])
 
