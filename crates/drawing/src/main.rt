@@ -7,6 +7,7 @@ use page::check::{Checked, check};
 use page::drawing::Drawing;
 use sheet::tree::shown;
 use std::io::Read;
+use std::process::ExitCode;
 
 fn input(rt: &HostRuntime) -> anyhow::Result<Vec<u8>> {
     let mut text = Vec::new(rt.alloc());
@@ -33,17 +34,20 @@ fn print(rt: &HostRuntime, checked: &Checked) -> anyhow::Result<()> {
     Ok(())
 }
 
-fn run(rt: &HostRuntime) -> anyhow::Result<()> {
+fn run(rt: &HostRuntime) -> anyhow::Result<ExitCode> {
     let text = input(rt)?;
     match check(rt.alloc(), &text) {
-        Ok(checked) => print(rt, &checked),
+        Ok(checked) => {
+            print(rt, &checked)?;
+            Ok(ExitCode::SUCCESS)
+        }
         Err(fault) => {
             println!(rt; "refused: {fault}")?;
-            Err(anyhow!("refused"))
+            Ok(ExitCode::FAILURE)
         }
     }
 }
 
-fn main(rt: HostRuntime) -> anyhow::Result<()> {
+fn main(rt: HostRuntime) -> anyhow::Result<ExitCode> {
     run(&rt)
 }

@@ -4,7 +4,7 @@
 //! undecided atom both ways, first in, then out; each trial is a smaller search of the same kind. The trail is a
 //! record of the atoms that are in and out so far, and a guard puts it back at the end of every trial. The relation
 //! `Searched` of `specs/Searches.antt` says which answer this order of trial gives; that such an answer is right is the
-//! lemma `searched-finds` of `proofs/Soundness.antt`.
+//! lemma `searched_finds` of `proofs/Soundness.antt`.
 #![tactic(auto)]
 
 ghost use Rattle.oracle.specs.Oracles.{Solves, Clears, WholeCore, valuation_in};
