@@ -1,6 +1,6 @@
-use Rattle.std.proofs.Common.{sym, ◌∙◌}
+use Rattle.std.proofs.Common.{arith}
 use Rattle.naming.proofs.Held.{rules_length}
 use Rattle.naming.proofs.table.Table.len.Goals as goal
 
 pub returns : goal.returns
-returns c = record { value = c.len.ensures.count ∙ sym (rules_length c.args.self.now.rules); small = c.len.ensures.small }
+returns c = let held = rules_length c.args.self.now.rules in record { value = omega arith; small = omega arith }
