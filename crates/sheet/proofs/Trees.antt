@@ -50,8 +50,8 @@ skip : (t : List SheetRow) (w n : ℕ) → Earlier t → n ≤ w → w < length 
 skip t w zero h a b = past_root t w (omega arith)
 skip t w (suc n) h a b =
     let e : suc n + 1 ≡ n + 1 + 1 = omega arith in
-    let no-parent = ne_eqb (get_or t (n + 1) no_row).parent w (λ q. omega (arith, h (n + 1) (omega arith) (omega arith))) in
-    skip t w n h (omega arith) b ∙ successors_more t w (n + 1) (omega arith) (omega arith) ∙ rw (no-parent, e) refl
+    let no_parent = ne_eqb (get_or t (n + 1) no_row).parent w (λ q. omega (arith, h (n + 1) (omega arith) (omega arith))) in
+    skip t w n h (omega arith) b ∙ successors_more t w (n + 1) (omega arith) (omega arith) ∙ rw (no_parent, e) refl
 
 -- so the successors of a world are found after it
 pub later_successors : (t : List SheetRow) (w : ℕ) → Earlier t → w < length t → (world (worlds_of t) w).successors ≡ successors_of w (w + 1) (drop (w + 1) t)

@@ -12,29 +12,29 @@ below : {a b t : ℕ} → b ≡ t → a + 1 ≡ b → a < t
 below e h = omega arith
 
 -- the base with the atom in, and with it out
-in-other : (base to : AtomSet) (a : ℕ) → ((i : ℕ) → has to i ≡ has base i || (eqb a i && ltb i 64)) → (i : ℕ) → (i ≡ a → ⊥) → has to i ≡ has base i
-in-other base to a e i ne = e i ∙ other (has base i)
+in_other : (base to : AtomSet) (a : ℕ) → ((i : ℕ) → has to i ≡ has base i || (eqb a i && ltb i 64)) → (i : ℕ) → (i ≡ a → ⊥) → has to i ≡ has base i
+in_other base to a e i ne = e i ∙ other (has base i)
   where
     other : (b : Bool) → (b || (eqb a i && ltb i 64)) ≡ b
     other true = refl
     other false = grind (arith, nat_tests, ne)
 
-in-here : (base to : AtomSet) (a : ℕ) → a < 64 → ((i : ℕ) → has to i ≡ has base i || (eqb a i && ltb i 64)) → has to a ≡ true
-in-here base to a l e = e a ∙ own (has base a)
+in_here : (base to : AtomSet) (a : ℕ) → a < 64 → ((i : ℕ) → has to i ≡ has base i || (eqb a i && ltb i 64)) → has to a ≡ true
+in_here base to a l e = e a ∙ own (has base a)
   where
     own : (b : Bool) → (b || (eqb a a && ltb a 64)) ≡ true
     own true = refl
     own false = grind (arith, nat_tests)
 
-out-other : (base to : AtomSet) (a : ℕ) → ((i : ℕ) → has to i ≡ has base i && not (eqb a i)) → (i : ℕ) → (i ≡ a → ⊥) → has to i ≡ has base i
-out-other base to a e i ne = e i ∙ other (has base i)
+out_other : (base to : AtomSet) (a : ℕ) → ((i : ℕ) → has to i ≡ has base i && not (eqb a i)) → (i : ℕ) → (i ≡ a → ⊥) → has to i ≡ has base i
+out_other base to a e i ne = e i ∙ other (has base i)
   where
     other : (b : Bool) → (b && not (eqb a i)) ≡ b
     other true = grind (arith, nat_tests, ne)
     other false = refl
 
-out-here : (base to : AtomSet) (a : ℕ) → ((i : ℕ) → has to i ≡ has base i && not (eqb a i)) → has to a ≡ false
-out-here base to a e = e a ∙ own (has base a)
+out_here : (base to : AtomSet) (a : ℕ) → ((i : ℕ) → has to i ≡ has base i && not (eqb a i)) → has to a ≡ false
+out_here base to a e = e a ∙ own (has base a)
   where
     own : (b : Bool) → (b && not (eqb a a)) ≡ false
     own true = grind (arith, nat_tests)
@@ -57,7 +57,7 @@ returns-in-Some-find t c =
     let k = c.in-Some-find.ensures in
     record {
       varies = wider c.args.free c.args.base c.remove-rest.result c.in-Some.atom c.remove-rest.ensures.rest c.insert.result c.in-Some-find.valuation
-          c.in-Some.ensures.member (in-other c.args.base c.insert.result c.in-Some.atom c.insert.ensures) k.varies;
+          c.in-Some.ensures.member (in_other c.args.base c.insert.result c.in-Some.atom c.insert.ensures) k.varies;
       made = k.made;
     }
 
@@ -65,8 +65,8 @@ returns-in-Some-find t c =
 second : (es : List Entry) (free base rest ins outs : AtomSet) (a : ℕ) (r : Option AtomSet) → a < 64 → has free a ≡ true → ((i : ℕ) → has rest i ≡ has free i && not (eqb a i))
     → ((i : ℕ) → has ins i ≡ has base i || (eqb a i && ltb i 64)) → ((i : ℕ) → has outs i ≡ has base i && not (eqb a i)) → Ends es rest ins None → Ends es rest outs r → Ends es free base r
 second es free base rest ins outs a None l own less i o f g =
-    neither free base rest a less es ins outs (in-other base ins a i) (in-here base ins a l i) (out-other base outs a o) (out-here base outs a o) f g
-second es free base rest ins outs a (Some s) l own less i o f g = record { varies = wider free base rest a less outs s own (out-other base outs a o) g.varies; made = g.made }
+    neither free base rest a less es ins outs (in_other base ins a i) (in_here base ins a l i) (out_other base outs a o) (out_here base outs a o) f g
+second es free base rest ins outs a (Some s) l own less i o f g = record { varies = wider free base rest a less outs s own (out_other base outs a o) g.varies; made = g.made }
 
 pub returns-in-None : goal.returns-in-None
 returns-in-None t c =

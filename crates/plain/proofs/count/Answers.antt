@@ -28,9 +28,9 @@ pub next-init : goal.next-init
 next-init c = (λ i h. absurd (true_false h (has_none i)), (λ u lu p l. absurd (let z : ⊥ = omega arith in z)), omega arith)
 
 -- the free atoms
-free-is : (es : List Entry) (w : Assumptions) (n m f : AtomSet) → ((i : ℕ) → has n i ≡ names es i) → ((i : ℕ) → has m i ≡ has n i && not (has w.within i))
+free_is : (es : List Entry) (w : Assumptions) (n m f : AtomSet) → ((i : ℕ) → has n i ≡ names es i) → ((i : ℕ) → has m i ≡ has n i && not (has w.within i))
     → ((i : ℕ) → has f i ≡ has m i && not (has w.without i)) → (i : ℕ) → has f i ≡ counted_over es w i
-free-is es w n m f a b d i =
+free_is es w n m f a b d i =
     d i ∙ ap (λ (t : Bool). t && not (has w.without i)) (b i ∙ ap (λ (t : Bool). t && not (has w.within i)) (a i)) ∙ both (names es i) (has w.within i) (has w.without i)
   where
     both : (n a o : Bool) → ((n && not a) && not o) ≡ (n && not (a || o))
@@ -71,7 +71,7 @@ next-preserved c =
 pub returns-in-None : goal.returns-in-None
 returns-in-None c =
     let v : AtomSet = c.next.counted in
-    let f = free-is c.args.entries.now c.args.under c.named.result c.difference.result c.difference-free.result c.named.ensures c.difference.ensures c.difference-free.ensures in
+    let f = free_is c.args.entries.now c.args.under c.named.result c.difference.result c.difference-free.result c.named.ensures c.difference.ensures c.difference-free.ensures in
     let last : v.bits ≡ c.difference-free.result.bits = ap (λ (s : AtomSet). s.bits) (sym c.loop-entry.invariant.1) ∙ c.in-None.ensures in
     let k : Unsatisfiable c.args.under c.args.entries.now =
     unsatisfiable c.args.under c.args.entries.now (complete c.args.entries.now c.args.under c.difference-free.result.bits f
@@ -89,7 +89,7 @@ loop-entry-preserved c = (
 
 pub returns-in-next : goal.returns-in-next
 returns-in-next c =
-    let f = free-is c.args.entries.now c.args.under c.named.result c.difference.result c.difference-free.result c.named.ensures c.difference.ensures c.difference-free.ensures in
+    let f = free_is c.args.entries.now c.args.under c.named.result c.difference.result c.difference-free.result c.named.ensures c.difference.ensures c.difference-free.ensures in
     let m : makes_all (has c.union-valuation.result) c.args.entries.now ≡ true =
     subst (λ (es : List Entry). makes_all (has c.union-valuation.result) es ≡ true) (take_all _ _ c.loop-entry-test.false) c.loop-entry.invariant.0 in
     record {

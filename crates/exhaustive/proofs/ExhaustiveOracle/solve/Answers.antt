@@ -10,9 +10,9 @@ use Rattle.oracle.proofs.Answering.{solves_core, solves_valuation}
 use Rattle.exhaustive.proofs.Varying.{complete, found}
 use Rattle.exhaustive.proofs.ExhaustiveOracle.solve.Goals as goal
 
-free-is : (es : List Entry) (w : Assumptions) (n d f : AtomSet) → ((i : ℕ) → has n i ≡ names es i) → ((i : ℕ) → has d i ≡ settled w i) → ((i : ℕ) → has f i ≡ has n i && not (has d i))
+free_is : (es : List Entry) (w : Assumptions) (n d f : AtomSet) → ((i : ℕ) → has n i ≡ names es i) → ((i : ℕ) → has d i ≡ settled w i) → ((i : ℕ) → has f i ≡ has n i && not (has d i))
     → (i : ℕ) → has f i ≡ names es i && not (settled w i)
-free-is es w n d f a b e i = let x = a i in let y = b i in let z = e i in cc
+free_is es w n d f a b e i = let x = a i in let y = b i in let z = e i in cc
 
 pub returns-then-clashes : goal.returns-then-clashes
 returns-then-clashes c =
@@ -30,7 +30,7 @@ returns-in-None c =
       core = refl;
       solves = solves_core _ _ _ c.args.under c.entries-entries.result.now (λ k. refl) c.entries-entries.ensures
           (complete c.entries-entries.result.now c.args.under c.difference-free.result
-          (free-is c.entries-entries.result.now c.args.under c.named.result c.union-decided.result c.difference-free.result c.named.ensures c.union-decided.ensures c.difference-free.ensures)
+          (free_is c.entries-entries.result.now c.args.under c.named.result c.union-decided.result c.difference-free.result c.named.ensures c.union-decided.ensures c.difference-free.ensures)
           c.in-None.ensures);
     }
 
@@ -40,6 +40,6 @@ returns-in-Some c =
       core = tt;
       solves = solves_valuation _ _ _ c.args.under c.entries-entries.result.now c.in-Some.valuation (λ k. refl) c.entries-entries.ensures
           (found c.entries-entries.result.now c.args.under c.difference-free.result c.in-Some.valuation (c.clashes.ensures.apart c.if-clashes.false)
-          (free-is c.entries-entries.result.now c.args.under c.named.result c.union-decided.result c.difference-free.result c.named.ensures c.union-decided.ensures c.difference-free.ensures)
+          (free_is c.entries-entries.result.now c.args.under c.named.result c.union-decided.result c.difference-free.result c.named.ensures c.union-decided.ensures c.difference-free.ensures)
           c.in-Some.ensures);
     }

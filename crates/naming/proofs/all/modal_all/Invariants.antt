@@ -9,12 +9,12 @@ use Rattle.naming.specs.Names.{modal_own}
 use Rattle.naming.proofs.all.modal_all.Given as goal
 
 -- what the names of a level from a slot on give
-abbrev pub given-at : (Shape → List ℕ) → (ℕ → List Name) → List ℕ → ℕ → List Row → ℕ → List ModalClause
-given-at under names from rule rows k = gather (modal_own under (names (k + 1)) rule rows) (16 + get_or from k 0) (drop (get_or from k 0) (names k))
+abbrev pub given_at : (Shape → List ℕ) → (ℕ → List Name) → List ℕ → ℕ → List Row → ℕ → List ModalClause
+given_at under names from rule rows k = gather (modal_own under (names (k + 1)) rule rows) (16 + get_or from k 0) (drop (get_or from k 0) (names k))
 
 abbrev pub invariant-loop-level : goal.invariant-loop-level
 invariant-loop-level l =
-    ((k : ℕ) → k < l.level → level_items l.boxes k ≡ level_items l.initial.boxes k ++ given-at boxed (level_items l.names) l.from l.rule l.rows k)
+    ((k : ℕ) → k < l.level → level_items l.boxes k ≡ level_items l.initial.boxes k ++ given_at boxed (level_items l.names) l.from l.rule l.rows k)
     × ((k : ℕ) → l.level ≤ k → level_items l.boxes k ≡ level_items l.initial.boxes k)
-    × ((k : ℕ) → k < l.level → level_items l.diamonds k ≡ level_items l.initial.diamonds k ++ given-at diamonded (level_items l.names) l.from l.rule l.rows k)
+    × ((k : ℕ) → k < l.level → level_items l.diamonds k ≡ level_items l.initial.diamonds k ++ given_at diamonded (level_items l.names) l.from l.rule l.rows k)
     × ((k : ℕ) → l.level ≤ k → level_items l.diamonds k ≡ level_items l.initial.diamonds k)

@@ -20,18 +20,18 @@ moved u w a e h = ap (λ (x : Assumptions). settled x a) e ∙ h
 joined : (u w r : Assumptions) (x : Literal) → u ≡ w → Joined u x r → Joined w x r
 joined u w r x e j = subst (λ (y : Assumptions). Joined y x r) e j
 
-left-same : (u w r : Assumptions) (x : Literal) → Joined u x r → u ≡ w → undecided_in r < undecided_in u → undecided_in r < undecided_in w
-left-same u w r x _ e h = subst (λ (y : Assumptions). undecided_in r < undecided_in y) e h
+left_same : (u w r : Assumptions) (x : Literal) → Joined u x r → u ≡ w → undecided_in r < undecided_in u → undecided_in r < undecided_in w
+left_same u w r x _ e h = subst (λ (y : Assumptions). undecided_in r < undecided_in y) e h
 
 -- what the tests told of the trail
-all-full : (w : Assumptions) (u : AtomSet) → ((i : ℕ) → has u i ≡ ltb i 64 && not (settled w i)) → ((i : ℕ) → has u i ≡ false) → Full w
-all-full w u e none a l = on (settled w a) a l (sym (e a) ∙ none a)
+all_full : (w : Assumptions) (u : AtomSet) → ((i : ℕ) → has u i ≡ ltb i 64 && not (settled w i)) → ((i : ℕ) → has u i ≡ false) → Full w
+all_full w u e none a l = on (settled w a) a l (sym (e a) ∙ none a)
   where
     on : (b : Bool) (a : ℕ) → a < 64 → ltb a 64 && not b ≡ false → b ≡ true
     on b a l h = grind (arith, nat_tests)
 
-lowest-open : (w : Assumptions) (u : AtomSet) (a : ℕ) → ((i : ℕ) → has u i ≡ ltb i 64 && not (settled w i)) → LowestIn u a → LowestOpen w a
-lowest-open w u a e k = record {
+lowest_open : (w : Assumptions) (u : AtomSet) (a : ℕ) → ((i : ℕ) → has u i ≡ ltb i 64 && not (settled w i)) → LowestIn u a → LowestOpen w a
+lowest_open w u a e k = record {
   small = k.small;
   free = free (ltb a 64) (settled w a) (sym (e a) ∙ k.member);
   first = λ i l. on (settled w i) i (let s = k.small in omega arith) (sym (e i) ∙ k.first i l);
@@ -69,12 +69,12 @@ returns-in_default t c =
     record {
       same = refl;
       order = full (c.clashes.ensures.apart c.if-clashes.false) c.in-Open.ensures
-          (all-full c.args.trail.now c.undecided.result c.undecided.ensures c.in_default.ensures);
+          (all_full c.args.trail.now c.undecided.result c.undecided.ensures c.in_default.ensures);
     }
 
 pub begin-trial-requires-in-Open : goal.begin-trial-requires-in-Open
 begin-trial-requires-in-Open t c =
-    let k = lowest-open c.args.trail.now c.undecided.result c.in-Some.atom c.undecided.ensures c.in-Some.ensures in
+    let k = lowest_open c.args.trail.now c.undecided.result c.in-Some.atom c.undecided.ensures c.in-Some.ensures in
     (k.small, k.free)
 
 pub search-requires-in-Open : goal.search-requires-in-Open
@@ -85,25 +85,25 @@ returns-in-Some-search t c =
     record {
       same = search rules;
       order = try_in c.in-Some.atom (c.clashes.ensures.apart c.if-clashes.false) c.in-Open.ensures
-          (lowest-open c.args.trail.now c.undecided.result c.in-Some.atom c.undecided.ensures c.in-Some.ensures)
+          (lowest_open c.args.trail.now c.undecided.result c.in-Some.atom c.undecided.ensures c.in-Some.ensures)
           c.begin-trial-in-Open.ensures.joined c.in-Some-search.ensures.order;
     }
 
 pub begin-trial-requires-in-Open-2 : goal.begin-trial-requires-in-Open-2
 begin-trial-requires-in-Open-2 t c =
-    let k = lowest-open c.args.trail.now c.undecided.result c.in-Some.atom c.undecided.ensures c.in-Some.ensures in
+    let k = lowest_open c.args.trail.now c.undecided.result c.in-Some.atom c.undecided.ensures c.in-Some.ensures in
     (k.small, moved _ c.args.trail.now c.in-Some.atom (search rules) k.free)
 
 pub search-requires-in-Open-2 : goal.search-requires-in-Open-2
 search-requires-in-Open-2 t c =
-    (below c.decreases (left-same _ c.args.trail.now _ _ c.begin-trial-in-Open-2.ensures.joined (search rules) c.begin-trial-in-Open-2.ensures.less), tt)
+    (below c.decreases (left_same _ c.args.trail.now _ _ c.begin-trial-in-Open-2.ensures.joined (search rules) c.begin-trial-in-Open-2.ensures.less), tt)
 
 pub returns-in_default-search : goal.returns-in_default-search
 returns-in_default-search t c =
     record {
       same = search rules;
       order = try_out c.in-Some.atom (c.clashes.ensures.apart c.if-clashes.false) c.in-Open.ensures
-          (lowest-open c.args.trail.now c.undecided.result c.in-Some.atom c.undecided.ensures c.in-Some.ensures)
+          (lowest_open c.args.trail.now c.undecided.result c.in-Some.atom c.undecided.ensures c.in-Some.ensures)
           c.begin-trial-in-Open.ensures.joined c.in_default-search.ensures.order
           (joined _ c.args.trail.now _ _ (search rules) c.begin-trial-in-Open-2.ensures.joined) c.search-in-Open-2.ensures.order;
     }

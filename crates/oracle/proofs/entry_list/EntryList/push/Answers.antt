@@ -21,13 +21,13 @@ inside r Learnt e h =
     let d = r.defines in let s = r.few in omega arith
 
 -- the counts have room for one more
-more-definitions : (r : EntryList) (m : Mark) → m ≡ Definition → room m (held_of r) ≡ true → r.defined < 97
-more-definitions r m e h =
+more_definitions : (r : EntryList) (m : Mark) → m ≡ Definition → room m (held_of r) ≡ true → r.defined < 97
+more_definitions r m e h =
     let few : ltb (length (definitions (held_of r))) 97 ≡ true = subst (λ (x : Mark). room x (held_of r) ≡ true) e h in
     let d = r.defines in grind (arith, nat_tests)
 
-more-learnt : (r : EntryList) (m : Mark) → m ≡ Learnt → room m (held_of r) ≡ true → r.taught < 128
-more-learnt r m e h =
+more_learnt : (r : EntryList) (m : Mark) → m ≡ Learnt → room m (held_of r) ≡ true → r.taught < 128
+more_learnt r m e h =
     let few : ltb (length (learnt (held_of r))) 128 ≡ true = subst (λ (x : Mark). room x (held_of r) ≡ true) e h in
     let d = r.teaches in grind (arith, nat_tests)
 
@@ -38,7 +38,7 @@ pub invariant_of-self : goal.invariant_of-self
 invariant_of-self c =
     let r : EntryList = c.args.self.now in
     let l : r.len < 225 = inside c.args.self.now c.args.entry.mark (omega arith) c.requires in
-    let k : r.defined < 97 = more-definitions c.args.self.now c.args.entry.mark c.in-Definition.is c.requires in
+    let k : r.defined < 97 = more_definitions c.args.self.now c.args.entry.mark c.in-Definition.is c.requires in
     let g = grown_definition r.slots r.len c.args.entry (omega arith) c.in-Definition.is in
     record { within = omega arith; defines = omega (arith, g.defines, r.defines); teaches = omega (arith, g.teaches, r.teaches); few = omega arith; short = omega arith }
 
@@ -46,7 +46,7 @@ pub invariant_of-self-in-Learnt : goal.invariant_of-self-in-Learnt
 invariant_of-self-in-Learnt c =
     let r : EntryList = c.args.self.now in
     let l : r.len < 225 = inside c.args.self.now c.args.entry.mark (omega arith) c.requires in
-    let k : r.taught < 128 = more-learnt c.args.self.now c.args.entry.mark c.in-Learnt.is c.requires in
+    let k : r.taught < 128 = more_learnt c.args.self.now c.args.entry.mark c.in-Learnt.is c.requires in
     let g = grown_learnt r.slots r.len c.args.entry (omega arith) c.in-Learnt.is in
     record { within = omega arith; defines = omega (arith, g.defines, r.defines); teaches = omega (arith, g.teaches, r.teaches); few = omega arith; short = omega arith }
 
