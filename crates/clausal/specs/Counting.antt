@@ -1,5 +1,5 @@
 -- How many names a rule takes at each level, and so when adding is refused.
-use Rattle.std.specs.Prelude.{ℕ, zero, suc, ◌+◌, ◌-◌, Bool, true, cond, ◌&&◌, ltb, List, [], ◌∷◌, ◌++◌, length, Ok, Err, filter, Result, ◌==◌, nat_le, nat_lt, slice_index_or}
+use Rattle.std.specs.Prelude.{ℕ, zero, suc, ◌+◌, ◌-◌, Bool, true, cond, ◌&&◌, List, [], ◌∷◌, ◌++◌, length, Ok, Err, filter, Result, ◌==◌, nat_le, nat_lt, slice_index_or}
 use Rattle.std.specs.List.{range_with_len}
 use Rattle.lists.specs.Lists.{some, first_at}
 use Rattle.modal.specs.declared.row.Row.{Row}
@@ -47,7 +47,7 @@ names_of (r ∷ rs) l = count_of_names r l + names_of rs l
 
 -- the lowest level with more than 48 names, or 8
 unfoldable pub crowded : List (List Row) → ℕ
-crowded rules = first_at (λ l. ltb 48 (names_of rules l)) (range_with_len 0 8)
+crowded rules = first_at (λ l. nat_lt 48 (names_of rules l)) (range_with_len 0 8)
 
 -- what adding a rule to those held answers: its number, or why it is refused
 unfoldable pub add_answer : List (List Row) → List Row → Result ℕ AddFault

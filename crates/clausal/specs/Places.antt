@@ -1,5 +1,5 @@
 -- The places of a rule: which are reached, and the literal of each.
-use Rattle.std.specs.Prelude.{ℕ, suc, ◌+◌, ◌-◌, Bool, true, false, cond, not, ◌&&◌, List, [], ◌∷◌, length, get_or, ◌==◌, slice_index_or}
+use Rattle.std.specs.Prelude.{ℕ, suc, ◌+◌, ◌-◌, Bool, true, false, cond, not, ◌&&◌, List, [], ◌∷◌, length, ◌==◌, slice_index_or}
 use Rattle.lists.specs.Lists.{some, first_at, In}
 use Rattle.modal.specs.Rows.{built}
 use Rattle.modal.specs.declared.row.Row.{Row}
@@ -31,7 +31,7 @@ abbrev pub literal_of : (ℕ → Bool → ℕ) → List (Bool → Literal) → �
 literal_of nm ls k False s = record { atom = 15; holds = not s }
 literal_of nm ls k True s = record { atom = 15; holds = s }
 literal_of nm ls k (Letter a) s = record { atom = a; holds = s }
-literal_of nm ls k (Not c) s = get_or ls c (λ t. record { atom = 15; holds = t }) (not s)
+literal_of nm ls k (Not c) s = slice_index_or ls c (λ t. record { atom = 15; holds = t }) (not s)
 literal_of nm ls k (And c e) s = record { atom = nm k s; holds = true }
 literal_of nm ls k (Or c e) s = record { atom = nm k s; holds = true }
 literal_of nm ls k (Box c) s = record { atom = nm k s; holds = true }
@@ -60,4 +60,4 @@ name_of st l r k s = name_in (st.names l) r k s
 
 -- the literal of row k of rule r with a sign at a level
 abbrev pub lit : State → ℕ → ℕ → Bool → ℕ → Literal
-lit st r l s k = get_or (literals_of (name_of st l r) (rule_at st r)) k (λ t. record { atom = 15; holds = t }) s
+lit st r l s k = slice_index_or (literals_of (name_of st l r) (rule_at st r)) k (λ t. record { atom = 15; holds = t }) s

@@ -5,7 +5,7 @@ use crate::row_list::RowList;
 
 mod methods;
 
-/// A lawful rule. It is no `Copy`: whoever is handed a rule for good is the only one to have it.
+/// A lawful rule. It is no `Copy`: who hands a rule over for good no longer has it.
 #[derive(Drop)]
 pub struct Rule {
     list: RowList,

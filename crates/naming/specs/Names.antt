@@ -1,5 +1,5 @@
 -- The names that a rule takes, in order, and what they give.
-use Rattle.std.specs.Prelude.{ℕ, suc, ◌-◌, ◌<◌, Bool, true, cond, List, [], ◌∷◌, ◌++◌, map, length, get_or, ◌==◌, slice_index_or}
+use Rattle.std.specs.Prelude.{ℕ, suc, ◌-◌, ◌<◌, Bool, true, cond, List, [], ◌∷◌, ◌++◌, map, length, ◌==◌, slice_index_or}
 use Rattle.modal.specs.declared.row.Row.{Row}
 use Rattle.modal.specs.declared.row.Row.TheVariants.{False}
 use Rattle.atoms.specs.Clauses.{clause_from}
@@ -16,7 +16,7 @@ use Rattle.naming.specs.Order.{takers}
 
 -- the literal of a row with a sign, over a level's names
 unfoldable pub lit_in : List Name → ℕ → List Row → Bool → ℕ → Literal
-lit_in xs r rows s k = get_or (literals_of (name_in xs r) rows) k (λ t. record { atom = 15; holds = t }) s
+lit_in xs r rows s k = slice_index_or (literals_of (name_in xs r) rows) k (λ t. record { atom = 15; holds = t }) s
 
 -- the names of places, by their numbers
 abbrev pub places_named : ℕ → List ℕ → List Name
