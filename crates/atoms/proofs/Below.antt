@@ -3,12 +3,11 @@ use Rattle.std.proofs.Common.{◌≡◌, ℕ, zero, suc, ◌+◌, ◌/◌, ◌%�
 use native.Mathlib.Nat.{pow-succ'}
 use lib.Count.{ones, ones_step}
 use lib.Bits.{or_lt}
-use Rattle.std.proofs.lemmas.Bool.{and_from, or_from, or_cases, or_left, or_right, eqb-true, eqb-false, lt-ltb}
+use Rattle.std.proofs.lemmas.Bool.{and_from, or_from, or_cases, or_left, or_right, eqb-true, eqb-false, lt-ltb, false_from_ne_true, both_ways}
 use Rattle.std.proofs.lemmas.Bool.Decides.{nat_tests}
 use Rattle.atoms.specs.Bits.{bit}
 use Rattle.atoms.specs.Sets.{some_below, count_below, set_below}
 use Rattle.atoms.proofs.Members.{has_zero, has_suc, has_none, has_or, has_one, has_same, has_letters}
-use Rattle.lists.proofs.Truth.{true_false, not_true}
 
 pub some_none : (n : ℕ) (p : ℕ → Bool) → ((i : ℕ) → i < n → p i ≡ false) → some_below n p ≡ false
 unfolding some_below
@@ -27,12 +26,12 @@ some_here (suc n) p i l e = at (eqb i n) refl (λ h. some_here n p i h e)
 -- and the other way round
 pub some_where : (n : ℕ) (p : ℕ → Bool) → some_below n p ≡ true → (i : ℕ) × (i < n) × (p i ≡ true)
 unfolding some_below
-some_where zero p e = absurd (true_false e refl)
+some_where zero p e = absurd (both_ways _ refl e)
 some_where (suc n) p e = elim (or_cases (p n) (some_below n p) e) [ inl h ↦ (n, omega arith, h) | inr h ↦ (let (i, l, q) = some_where n p h in (i, omega arith, q)) ]
 
 -- where the test holds of none, it holds of no number below the bound
 pub none_at : (n : ℕ) (p : ℕ → Bool) → some_below n p ≡ false → (i : ℕ) → i < n → p i ≡ false
-none_at n p e i l = not_true (p i) (λ h. true_false (some_here n p i l h) e)
+none_at n p e i l = false_from_ne_true (p i) (λ h. both_ways _ e (some_here n p i l h))
 
 pub some_same : (n : ℕ) (p q : ℕ → Bool) → ((i : ℕ) → i < n → p i ≡ q i) → some_below n p ≡ some_below n q
 unfolding some_below
@@ -51,7 +50,7 @@ empty_none n t false high all some = at (some_below n t) refl
 
     at : (b : Bool) → some_below n t ≡ b → false ≡ not (some_below n t)
     at true q = sym (ap not q)
-    at false q = absurd (true_false (some (λ i. low (t i) i (high i) (none_at n t q i))) refl)
+    at false q = absurd (both_ways _ refl (some (λ i. low (t i) i (high i) (none_at n t q i))))
 
 -- what one test adds to a count
 abbrev one : Bool → ℕ
@@ -87,7 +86,7 @@ count_less (suc n) p q a e l h = at (eqb a n) refl (λ less. count_less n p q a 
         let rest : count_below n p ≡ count_below n q = count_same n p q (λ i m. apart (p i) (q i) a i (e i) (λ f. omega arith)) in
         omega arith
     at false z below =
-        let ne : a ≡ n → ⊥ = λ f. (let w : eqb a n ≡ true = grind (arith, nat_tests) in true_false w z) in
+        let ne : a ≡ n → ⊥ = λ f. (let w : eqb a n ≡ true = grind (arith, nat_tests) in both_ways _ z w) in
         let less : a < n = grind (arith, nat_tests) in
         let same : one (p n) ≡ one (q n) = ap (λ (b : Bool). one b) (apart (p n) (q n) a n (e n) ne) in
         let rest = below less in
@@ -139,7 +138,7 @@ set_has (suc n) p i = has_or (cond (p n) (2 ^ n) 0) (set_below n p) i ∙ ap (λ
     at false e true f = let z : n ≡ i = eqb-true n i f in let q : p i ≡ false = sym (ap p z) ∙ e in ap (λ (b : Bool). b || (ltb i n && p i)) (has_none i) ∙ ap (λ (b : Bool). ltb i n && b) q ∙ flat (ltb i n) (ltb i (suc n)) ∙ ap (λ (b : Bool). ltb i (suc n) && b) (sym q)
     at false e false f = ap (λ (b : Bool). b || (ltb i n && p i)) (has_none i) ∙ ap (λ (b : Bool). b && p i) (step i (eqb-false n i f))
 
-set_small : (n : ℕ) (p : ℕ → Bool) → set_below n p < 2 ^ n
+pub set_small : (n : ℕ) (p : ℕ → Bool) → set_below n p < 2 ^ n
 unfolding set_below
 set_small zero p = omega arith
 set_small (suc n) p = let h = set_small n p in let q = pow-succ' 2 n in or_lt (suc n) (cond (p n) (2 ^ n) 0) (set_below n p) (one_small (p n)) (omega arith)

@@ -4,7 +4,7 @@ use native.Mathlib.Nat.{div-div-eq-div-mul, pow-succ', zero-div}
 use lib.Bits.{bit_and, bit_or, and_shr, or_shr, and_step, or_step, and_mask, or_lt}
 use lib.Count.{count_trailing_zeros, under}
 use Rattle.std.proofs.lemmas.Nat.{one_shl, pow_below}
-use Rattle.std.proofs.lemmas.Bool.{ltb-true, ltb-false, lt-ltb}
+use Rattle.std.proofs.lemmas.Bool.{true≢false, ltb-true, ltb-false, lt-ltb}
 use Rattle.std.proofs.lemmas.Bool.Decides.{nat_tests}
 use Rattle.atoms.specs.Bits.{bit}
 
@@ -85,6 +85,11 @@ has_same (suc k) m n hm hn e =
 -- a set with no members is empty
 pub has_nothing : (k n : ℕ) → n < 2 ^ k → ((i : ℕ) → bit n i ≡ false) → n ≡ 0
 has_nothing k n h e = has_same k n 0 h (pow_pos k) (λ i. e i ∙ sym (has_none i))
+
+-- a set that a test for no members finds not empty is not 0
+pub not_zero : (n : ℕ) (b : Bool) → (((i : ℕ) → bit n i ≡ false) → b ≡ true) → b ≡ false → 0 < n
+not_zero zero b h e = absurd (true≢false (sym (h has_none) ∙ e))
+not_zero (suc n) b h e = omega arith
 
 pub record Lowest (k n a : ℕ) : Type 0 where
   pub within : a < k

@@ -1,13 +1,12 @@
 -- Valuations that obey assumptions, by the atoms that must be in and those that must be out.
 use Rattle.std.proofs.Common.{◌≡◌, ℕ, Bool, true, false, cond, not, ◌&&◌, ◌||◌, eqb, ltb, sym, refl, ap, ◌∙◌, eqb-true}
-use Rattle.std.proofs.lemmas.Bool.{or_left}
+use Rattle.std.proofs.lemmas.Bool.{or_left, and_parts, not-true, both_ways}
 use Rattle.atoms.specs.Assuming.{Obeys, clashing, Joined}
 use Rattle.atoms.specs.Clauses.{Valuation, obeys_one}
 use Rattle.atoms.specs.Sets.{has}
 use Rattle.atoms.specs.declared.assumptions.Assumptions.{Assumptions}
 use Rattle.atoms.specs.declared.clauses.Literal.{Literal}
 use Rattle.atoms.proofs.Below.{some_none}
-use Rattle.lists.proofs.Truth.{and_left, off, true_false}
 
 -- the valuation has in it the atoms that must be in, and none that must be out
 pub record Follows (v : Valuation) (w : Assumptions) : Type 0 where
@@ -17,7 +16,7 @@ pub record Follows (v : Valuation) (w : Assumptions) : Type 0 where
 pub obeys_follows : (v : Valuation) (w : Assumptions) → Obeys v w → Follows v w
 obeys_follows v w o = record {
   ins = λ i h. o (record { atom = i; holds = true }) h;
-  outs = λ i h. off (v i) (o (record { atom = i; holds = false }) h);
+  outs = λ i h. not-true (v i) (o (record { atom = i; holds = false }) h);
 }
 
 pub follows_obeys : (v : Valuation) (w : Assumptions) → Follows v w → Obeys v w
@@ -29,10 +28,10 @@ follows_obeys v w f x = at x.holds x.atom
 
 -- no valuation follows assumptions that clash
 pub clash_never : (w : Assumptions) → clashing w ≡ true → (v : Valuation) → Follows v w → ⊥
-clash_never w e v f = true_false e (some_none 64 (λ a. has w.within a && has w.without a) (λ i _. by (has w.within i) (has w.without i) (v i) (f.ins i) (f.outs i)))
+clash_never w e v f = both_ways _ (some_none 64 (λ a. has w.within a && has w.without a) (λ i _. by (has w.within i) (has w.without i) (v i) (f.ins i) (f.outs i))) e
   where
     by : (a o v : Bool) → (a ≡ true → v ≡ true) → (o ≡ true → v ≡ false) → (a && o) ≡ false
-    by true true v i u = absurd (true_false (i refl) (u refl))
+    by true true v i u = absurd (both_ways _ (u refl) (i refl))
     by true false v i u = refl
     by false o v i u = refl
 
@@ -50,14 +49,14 @@ follows_more w r x v j f o = record {
 }
   where
     same : (i : ℕ) → (eqb x.atom i && ltb i 64) ≡ true → v i ≡ v x.atom
-    same i e = ap v (sym (eqb-true x.atom i (and_left (eqb x.atom i) (ltb i 64) e)))
+    same i e = ap v (sym (eqb-true x.atom i (and_parts (eqb x.atom i) (ltb i 64) e).0))
 
     pick_in : (a h : Bool) (i : ℕ) → (a || (h && (eqb x.atom i && ltb i 64))) ≡ true → (a ≡ true → v i ≡ true) → cond h (v x.atom) (not (v x.atom)) ≡ true → v i ≡ true
     pick_in true h i s g o = g refl
     pick_in false true i s g o = same i s ∙ o
-    pick_in false false i s g o = absurd (true_false s refl)
+    pick_in false false i s g o = absurd (both_ways _ refl s)
 
     pick_out : (a h : Bool) (i : ℕ) → (a || (not h && (eqb x.atom i && ltb i 64))) ≡ true → (a ≡ true → v i ≡ false) → cond h (v x.atom) (not (v x.atom)) ≡ true → v i ≡ false
     pick_out true h i s g o = g refl
-    pick_out false true i s g o = absurd (true_false s refl)
-    pick_out false false i s g o = same i s ∙ off (v x.atom) o
+    pick_out false true i s g o = absurd (both_ways _ refl s)
+    pick_out false false i s g o = same i s ∙ not-true (v x.atom) o

@@ -1,5 +1,6 @@
 -- A valuation matters only on the atoms that the entries name and that are not assumed.
 use Rattle.std.proofs.Common.{◌≡◌, Bool, true, false, cond, not, ◌&&◌, ◌||◌, List, sym, refl}
+use Rattle.std.proofs.lemmas.Bool.{both_ways}
 use Rattle.atoms.specs.Assuming.{settled}
 use Rattle.atoms.specs.Clauses.{Valuation, makes_all, names}
 use Rattle.atoms.specs.Sets.{has}
@@ -7,7 +8,6 @@ use Rattle.atoms.specs.declared.assumptions.Assumptions.{Assumptions}
 use Rattle.atoms.specs.declared.clauses.Entry.{Entry}
 use Rattle.atoms.proofs.Making.{agree_all}
 use Rattle.atoms.proofs.Obeying.{Follows}
-use Rattle.lists.proofs.Truth.{true_false}
 
 -- the valuation on those atoms; any other is as assumed, else out
 abbrev pub restricted : List Entry → Assumptions → Valuation → Valuation
@@ -20,4 +20,4 @@ restricted_all es w v f m = agree_all es (restricted es w v) v (λ i n _. same (
     same true true o v e i u = sym (i refl)
     same true false true v e i u = sym (u refl)
     same true false false v e i u = refl
-    same false a o v e i u = absurd (true_false e refl)
+    same false a o v e i u = absurd (both_ways _ refl e)

@@ -6,6 +6,8 @@ use crate::clauses::Literal;
 use crate::sets::AtomSet;
 
 /// A set of literals that a valuation is to obey: the atoms that must be in, and those that must be out.
+// Two sets, as a clause is, but a type of its own: a clause wants one of its literals true and assumptions want all, and
+// of one type the one could be passed for the other.
 #[derive(Clone, Copy, PartialEq, Eq, Debug)]
 pub struct Assumptions {
     pub within: AtomSet,
@@ -37,16 +39,7 @@ impl Assumptions {
     pub fn with(self, literal: Literal) -> Assumptions
         ensures { Joined self literal result }
     {
-        if literal.holds {
-            Assumptions {
-                within: self.within.insert(literal.atom),
-                without: self.without,
-            }
-        } else {
-            Assumptions {
-                within: self.within,
-                without: self.without.insert(literal.atom),
-            }
-        }
+        let (within, without) = literal.put(self.within, self.without);
+        Assumptions { within, without }
     }
 }

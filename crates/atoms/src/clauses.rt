@@ -1,5 +1,5 @@
-ghost use Rattle.std.specs.Prelude.{◌≡◌, ℕ};
-ghost use Rattle.atoms.specs.Clauses.{makes, makes_all, names, has_atom, with_literal};
+ghost use Rattle.std.specs.Prelude.{◌≡◌, ℕ, if◌then◌else◌, not, ◌&&◌, ◌||◌, ◌==◌, nat_lt};
+ghost use Rattle.atoms.specs.Clauses.{makes, makes_all, names, has_atom, with_atom, with_literal};
 ghost use Rattle.atoms.specs.Sets.{has};
 
 use crate::sets::AtomSet;
@@ -31,6 +31,22 @@ pub struct Entry {
     pub mark: Mark,
 }
 
+impl Literal {
+    // The sets of the plain and of the negated atoms of some literals, with this one among them.
+    pub(crate) fn put(self, plain: AtomSet, negated: AtomSet) -> (AtomSet, AtomSet)
+        ensures plain { result.0 ≡ (if self.holds then with_atom plain self.atom else plain) }
+        ensures negated { result.1 ≡ (if self.holds then negated else with_atom negated self.atom) }
+        ensures ins { (i : ℕ) → has result.0 i ≡ has plain i || (self.holds && (self.atom == i && nat_lt i 64)) }
+        ensures outs { (i : ℕ) → has result.1 i ≡ has negated i || (not self.holds && (self.atom == i && nat_lt i 64)) }
+    {
+        if self.holds {
+            (plain.insert(self.atom), negated)
+        } else {
+            (plain, negated.insert(self.atom))
+        }
+    }
+}
+
 impl Clause {
     /// No literal.
     pub const NONE: Clause = Clause {
@@ -42,17 +58,8 @@ impl Clause {
     pub fn with(self, literal: Literal) -> Clause
         ensures { result ≡ with_literal self literal }
     {
-        if literal.holds {
-            Clause {
-                plain: self.plain.insert(literal.atom),
-                negated: self.negated,
-            }
-        } else {
-            Clause {
-                plain: self.plain,
-                negated: self.negated.insert(literal.atom),
-            }
-        }
+        let (plain, negated) = literal.put(self.plain, self.negated);
+        Clause { plain, negated }
     }
 
     /// Whether the valuation makes one of the literals true.
@@ -76,12 +83,7 @@ impl Clause {
 pub fn all_hold(entries: &[Entry], valuation: AtomSet) -> bool
     ensures { result ≡ makes_all (has valuation) entries.now }
 {
-    for entry in entries {
-        if !entry.clause.holds(valuation) {
-            return false;
-        }
-    }
-    true
+    entries.iter().all(|entry| entry.clause.holds(valuation))
 }
 
 /// The atoms that the entries name.

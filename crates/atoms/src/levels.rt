@@ -1,19 +1,50 @@
-ghost use Rattle.std.specs.Prelude.{◌≡◌, ◌<◌, ◌≤◌, MatchOption};
+ghost use Rattle.std.specs.Prelude.{◌≡◌, ◌+◌, ◌<◌, ◌≤◌, MatchOption};
+
+use std::marker::Model;
 
 /// How many levels there are: 0 to 7.
 pub const LEVELS: u8 = 8;
 
-/// A number of steps from the root, 0 to 7.
-#[derive(Clone, Copy)]
+/// A number of steps from the root, 0 to 7. Clauses see the number.
+#[derive(Clone, Copy, PartialEq, Eq, PartialOrd, Ord, Debug)]
 pub struct Level {
     number: u8,
-    ghost small: { number < 8 },
+}
+
+impl Model for Level {
+    ghost use Rattle.std.specs.Prelude.{ℕ, ◌<◌};
+
+    ghost Value = { ℕ };
+
+    ghost view = { λ l. l.number };
+
+    ghost invariant = { λ l. l.number < 8 };
+
+    ghost inverse = { λ n. record { number = n } };
 }
 
 impl Level {
+    /// The level of the root.
+    pub const ROOT: Level = Level { number: 0 };
+
+    /// The last level.
+    pub const DEEPEST: Level = Level { number: 7 };
+
+    /// Every level, the root's first.
+    pub const ALL: [Level; 8] = [
+        Level { number: 0 },
+        Level { number: 1 },
+        Level { number: 2 },
+        Level { number: 3 },
+        Level { number: 4 },
+        Level { number: 5 },
+        Level { number: 6 },
+        Level { number: 7 },
+    ];
+
     /// The level of the number, or none from 8 on.
     pub fn new(number: u8) -> Option<Level>
-        ensures { MatchOption result (8 ≤ number) (λ l. l.number ≡ number) }
+        ensures { MatchOption result (8 ≤ number) (λ l. (l ≡ number) × (number < 8)) }
     {
         if number < LEVELS {
             return Some(Level { number });
@@ -23,9 +54,24 @@ impl Level {
 
     /// The number of the level, below 8.
     pub fn number(self) -> u8
-        ensures same { result ≡ self.number }
+        ensures same { result ≡ self }
         ensures small { result < 8 }
     {
         self.number
+    }
+
+    /// One level further from the root, or none at the last.
+    pub fn next(self) -> Option<Level>
+        ensures { MatchOption result (7 ≤ self) (λ l. (l ≡ self + 1) × (self < 7)) }
+    {
+        Level::new(self.number + 1)
+    }
+
+    /// The number of the level as an index.
+    pub fn index(self) -> usize
+        ensures same { result ≡ self }
+        ensures small { result < 8 }
+    {
+        usize::from(self.number)
     }
 }

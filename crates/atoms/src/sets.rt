@@ -11,20 +11,21 @@ pub struct AtomSet {
     pub bits: u64,
 }
 
+// The set whose atoms are the bits of the word.
+impl From<u64> for AtomSet {
+    ghost from_gives = { λ bits set. (set.bits ≡ bits) × ((i : ℕ) → has set i ≡ bit bits i) };
+
+    fn from(bits: u64) -> AtomSet {
+        AtomSet { bits }
+    }
+}
+
 impl AtomSet {
     /// No atom.
     pub const NONE: AtomSet = AtomSet { bits: 0 };
 
     /// The letters: atoms 0 to 14.
     pub const LETTERS: AtomSet = AtomSet { bits: 0x7fff };
-
-    /// The set whose atoms are the bits of the word.
-    pub fn from_bits(bits: u64) -> AtomSet
-        ensures written { result.bits ≡ bits }
-        ensures members { (i : ℕ) → has result i ≡ bit bits i }
-    {
-        AtomSet { bits }
-    }
 
     /// Whether the atom `a` is in the set.
     pub fn member(self, a: u8) -> bool
@@ -99,7 +100,7 @@ impl AtomSet {
         ensures all { result ≡ true → (i : ℕ) → has self i ≡ false }
         ensures some { ((i : ℕ) → has self i ≡ false) → result ≡ true }
     {
-        self.bits == Self::NONE.bits
+        self == Self::NONE
     }
 
     /// How many atoms are in the set.
@@ -113,7 +114,7 @@ impl AtomSet {
     pub fn lowest(self) -> Option<u8>
         ensures { MatchOption result ((i : ℕ) → has self i ≡ false) (λ a. LowestIn self a) }
     {
-        if self.bits == 0 {
+        if self.is_empty() {
             return None;
         }
         Some(self.bits.trailing_zeros() as u8)

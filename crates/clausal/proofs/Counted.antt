@@ -1,8 +1,10 @@
 -- The places that are counted are the places that are reached, each once.
+use Rattle.std.proofs.lemmas.Grind.{common_steps}
+use Rattle.std.proofs.lemmas.Bool.Decides.{nat_tests}
 use Rattle.std.proofs.Common.{◌≡◌, ℕ, zero, suc, ◌-◌, ◌<◌, ◌≤◌, Bool, true, false, cond, eqb, ◌⊎◌, List, [], ◌∷◌, length, get_or, sym, refl, subst, inl, inr, arith}
-use Rattle.std.proofs.lemmas.Bool.{and_parts, and_from, eqb-true, eq-eqb, cases_lt, cases_eq, both_ways}
+use Rattle.std.proofs.lemmas.Bool.{and_parts, eqb-true, eq-eqb, cases_lt, cases_eq, both_ways}
 use Rattle.std.proofs.lemmas.List.{get_or_past}
-use Rattle.clausal.proofs.Reading.{same_sign, sign_same}
+use Rattle.clausal.proofs.Reading.{same_sign}
 use Rattle.clausal.proofs.Rows.{Lawful, RowOk}
 use Rattle.clausal.specs.Counting.{joined_by, places_of, place_eq, spread, walk}
 use Rattle.clausal.specs.Places.{Reached, last, leads, next}
@@ -22,7 +24,7 @@ same_place p q h =
     λ i. record { row = x i; plus = y i; level = z i }
 
 pub place_same : (p : Place) → place_eq p p ≡ true
-place_same p = and_from _ _ (eq-eqb p.row p.row refl) (and_from _ _ (sign_same p.plus) (eq-eqb p.level p.level refl))
+place_same p = grind (arith, common_steps, nat_tests)
 
 module _ (q : Place) (ps : List Place) where
   put_in : (b : Bool) {p : Place} → In p ps → In p (cond b ps (q ∷ ps))
@@ -34,9 +36,7 @@ module _ (q : Place) (ps : List Place) where
   put_self false e = here
 
   put_from : (b : Bool) {p : Place} → In p (cond b ps (q ∷ ps)) → (q ≡ p) ⊎ In p ps
-  put_from true i = inr i
-  put_from false here = inl refl
-  put_from false (there i) = inr i
+  put_from v1 v2 = grind (arith, common_steps, nat_tests)
 
   put_once : (b : Bool) → some (place_eq q) ps ≡ b → Once ps → Once (cond b ps (q ∷ ps))
   put_once true e o = o

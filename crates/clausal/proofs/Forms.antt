@@ -1,5 +1,7 @@
 -- Clauses as sets of literals, and the definitions that a session holds.
 -- a literal of the clause that is true makes it true
+use Rattle.std.proofs.lemmas.Grind.{common_steps}
+use Rattle.std.proofs.lemmas.Bool.Decides.{nat_tests}
 use Rattle.std.proofs.Common.{◌≡◌, ℕ, zero, suc, ◌+◌, ◌<◌, Bool, true, false, cond, not, ◌&&◌, ◌||◌, ◌⊎◌, List, [], ◌∷◌, length, get_or, sym, refl, subst, inl, inr, arith}
 use Rattle.atoms.proofs.Making.{makes_here, makes_where}
 use Rattle.std.proofs.lemmas.Bool.{and_parts, and_from, or_cases, or_left, or_right, cases_eq}
@@ -11,7 +13,7 @@ use Rattle.clausal.specs.declared.modal_clauses.ModalClause.{ModalClause}
 use Rattle.clausal.specs.declared.names.Name.{Name}
 use Rattle.clausal.specs.declared.names.Name.TheVariants.{Free as free, Handle as handle, Place as place}
 use Rattle.clausal.specs.declared.shapes.Shape.{Shape}
-use Rattle.clausal.specs.declared.shapes.Shape.TheVariants.{All as all, Both as both, Either as either, One as one, Plain as plain}
+use Rattle.clausal.specs.declared.shapes.Shape.TheVariants.{All as all, One as one}
 use Rattle.atoms.specs.Clauses.{Valuation, makes, obeys_one}
 use Rattle.atoms.specs.Sets.{has}
 use Rattle.atoms.specs.declared.clauses.Clause.{Clause}
@@ -91,17 +93,7 @@ module _ (under : Shape → List ℕ) (st : State) (l : ℕ) where
   modal_in k r b s c h e u = gather_in (modal_name under st l) 16 (st.names l) k h (rw e (of_modal (16 + k) (lit st r (suc l) s) u))
 
 pub boxed_is : {c : ℕ} (sh : Shape) → In c (boxed sh) → sh ≡ all c
-boxed_is plain i = elim i [ ]
-boxed_is (both a b) i = elim i [ ]
-boxed_is (either a b) i = elim i [ ]
-boxed_is (one a) i = elim i [ ]
-boxed_is (all a) here = refl
-boxed_is (all a) (there i) = elim i [ ]
+boxed_is v1 v2 = grind (arith, common_steps, nat_tests)
 
 pub diamonded_is : {c : ℕ} (sh : Shape) → In c (diamonded sh) → sh ≡ one c
-diamonded_is plain i = elim i [ ]
-diamonded_is (both a b) i = elim i [ ]
-diamonded_is (either a b) i = elim i [ ]
-diamonded_is (all a) i = elim i [ ]
-diamonded_is (one a) here = refl
-diamonded_is (one a) (there i) = elim i [ ]
+diamonded_is v1 v2 = grind (arith, common_steps, nat_tests)

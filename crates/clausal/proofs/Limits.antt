@@ -1,5 +1,7 @@
 -- A level never holds more than 97 definitions.
-use Rattle.std.proofs.Common.{◌≡◌, ℕ, zero, suc, ◌+◌, ◌*◌, ◌≤◌, Bool, true, false, cond, eqb, ltb, List, [], ◌∷◌, length, sym, refl, ap, ◌∙◌, subst, ap₂, inl, inr, arith, length-append}
+use Rattle.std.proofs.lemmas.Grind.{common_steps}
+use Rattle.std.proofs.lemmas.Bool.Decides.{nat_tests}
+use Rattle.std.proofs.Common.{◌≡◌, ℕ, zero, suc, ◌+◌, ◌*◌, ◌≤◌, Bool, cond, eqb, List, [], ◌∷◌, length, sym, refl, ap, ◌∙◌, subst, ap₂, inl, inr, arith, length-append}
 use Rattle.std.proofs.lemmas.Bool.{cases_eq, ne_eqb, cond-false}
 use Rattle.clausal.specs.Clausal.{Clausal, Writes, Written, defines, defines_name, defines_rule, gather, row_at, shape, start}
 use Rattle.clausal.specs.Places.{lit}
@@ -7,7 +9,6 @@ use Rattle.clausal.specs.States.{State}
 use Rattle.clausal.specs.declared.names.Name.{Name}
 use Rattle.clausal.specs.declared.names.Name.TheVariants.{Free as free, Handle as handle, Place as place}
 use Rattle.clausal.specs.declared.shapes.Shape.{Shape}
-use Rattle.clausal.specs.declared.shapes.Shape.TheVariants.{All as all, Both as both, Either as either, One as one, Plain as plain}
 use Rattle.atoms.specs.Clauses.{definitions}
 use Rattle.atoms.specs.declared.clauses.Entry.{Entry}
 use Rattle.atoms.specs.declared.clauses.Literal.{Literal}
@@ -40,15 +41,10 @@ module _ (st : State) (l : ℕ) where
   gives n x r = length (defines_name st l r n x)
 
   defines_two : (n : ℕ) (x : ℕ → Literal) (sh : Shape) → length (defines n x sh) ≤ 2
-  defines_two n x plain = omega arith
-  defines_two n x (both c e) = omega arith
-  defines_two n x (either c e) = omega arith
-  defines_two n x (all c) = omega arith
-  defines_two n x (one c) = omega arith
+  defines_two v1 v2 v3 = grind (arith, common_steps, nat_tests)
 
   cond_le : {A : Type 0} (b : Bool) (xs : List A) → length xs ≤ 2 → length (cond b xs []) ≤ 2
-  cond_le true xs h = h
-  cond_le false xs h = omega arith
+  cond_le v1 v2 v3 = grind (arith, common_steps, nat_tests)
 
   -- a name gives at most two definitions, to one rule
   name_two : (n : ℕ) (x : Name) (k : ℕ) → sum (gives n x) k ≤ 2
@@ -75,11 +71,7 @@ module _ (st : State) (l : ℕ) where
       omega arith
 
   start_one : length (start l) ≤ 1
-  start_one = go (ltb l 8) _
-    where
-      go : (b : Bool) (x : List Literal) → length (cond b (x ∷ []) []) ≤ 1
-      go true x = omega arith
-      go false x = omega arith
+  start_one = grind (arith, common_steps, nat_tests)
 
   pub few_definitions_lem : Clausal st → length (definitions (st.entries l)) ≤ 97
   few_definitions_lem cl =

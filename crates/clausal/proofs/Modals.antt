@@ -1,4 +1,6 @@
 -- Box and diamond clauses: by rising names, of atoms below 64, and none at the last level.
+use Rattle.std.proofs.lemmas.Grind.{common_steps}
+use Rattle.std.proofs.lemmas.Bool.Decides.{nat_tests}
 use Rattle.std.proofs.Common.{◌≡◌, ℕ, suc, ◌+◌, ◌<◌, ◌≤◌, Bool, List, [], ◌∷◌, ◌++◌, length, get_or, sym, refl, ap, subst, arith}
 use Rattle.lists.specs.Lists.{In, here, there}
 use Rattle.lists.proofs.Members.{no_members}
@@ -10,7 +12,6 @@ use Rattle.clausal.specs.declared.modal_clauses.ModalClause.{ModalClause}
 use Rattle.clausal.specs.declared.names.Name.{Name}
 use Rattle.clausal.specs.declared.names.Name.TheVariants.{Free as free, Place as place, Handle as handle}
 use Rattle.clausal.specs.declared.shapes.Shape.{Shape}
-use Rattle.clausal.specs.declared.shapes.Shape.TheVariants.{Plain, Both, Either, All, One}
 use Rattle.clausal.proofs.Forms.{Source, modal_from, boxed_is, diamonded_is}
 use Rattle.clausal.proofs.Gathered.{gathered}
 use Rattle.clausal.proofs.Reading.{Kids, kids}
@@ -51,18 +52,10 @@ module _ (under : Shape → List ℕ) (one : (z : Shape) → length (under z) �
       join (m ∷ (k ∷ ms)) h f r = absurd (omega arith)
 
 pub boxed_one : (z : Shape) → length (boxed z) ≤ 1
-boxed_one Plain = omega arith
-boxed_one (Both c d) = omega arith
-boxed_one (Either c d) = omega arith
-boxed_one (All c) = omega arith
-boxed_one (One c) = omega arith
+boxed_one v1 = grind (arith, common_steps, nat_tests)
 
 pub diamonded_one : (z : Shape) → length (diamonded z) ≤ 1
-diamonded_one Plain = omega arith
-diamonded_one (Both c d) = omega arith
-diamonded_one (Either c d) = omega arith
-diamonded_one (All c) = omega arith
-diamonded_one (One c) = omega arith
+diamonded_one v1 = grind (arith, common_steps, nat_tests)
 
 -- the row under a box or a diamond is reached one level further
 abbrev Under : (Shape → List ℕ) → State → ℕ → Type 0

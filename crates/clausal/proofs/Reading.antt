@@ -1,8 +1,8 @@
 -- The names of a session and what they read as.
-use Rattle.std.proofs.Common.{◌≡◌, ℕ, suc, ◌+◌, ◌-◌, ◌<◌, Bool, true, false, not, ◌&&◌, eqb, List, length, get_or, sym, refl, ap, ◌∙◌, subst, arith}
-use mathlib.Core.Bool.{false≢true}
-use Rattle.std.proofs.lemmas.Bool.{and_parts, and_from, eqb-true, eq-eqb, le-ltb, lt-ltb, ne_eqb, cond-true}
-use Rattle.lists.proofs.Truth.{not_not}
+use Rattle.std.proofs.lemmas.Grind.{common_steps}
+use Rattle.std.proofs.lemmas.Bool.Decides.{nat_tests}
+use Rattle.std.proofs.Common.{◌≡◌, ℕ, suc, ◌+◌, ◌-◌, ◌<◌, Bool, true, false, not, List, length, get_or, sym, refl, ap, ◌∙◌, subst, arith}
+use Rattle.std.proofs.lemmas.Bool.{eq-eqb, le-ltb, lt-ltb, ne_eqb, cond-true}
 use Rattle.clausal.proofs.Rows.{Lawful, RowOk, form_is, lawful_rows, literal_is, reached_ok, says_shape, shape_says}
 use Rattle.clausal.specs.Clausal.{Naming, Proper, row_at, shape, wants_name}
 use Rattle.clausal.specs.Places.{Reached, is_place_of, leads, lit, literal_of, literals_of, name_of, next, sign_eq}
@@ -22,32 +22,19 @@ use Rattle.modal.specs.declared.row.Row.{Row}
 use Rattle.modal.specs.declared.row.Row.TheVariants.{And, Box, Diamond, False, Letter, Not, Or, True}
 
 pub same_sign : (s t : Bool) → sign_eq s t ≡ true → s ≡ t
-same_sign true t h = sym h
-same_sign false true h = absurd (false≢true h)
-same_sign false false h = refl
+same_sign v1 v2 v3 = grind (arith, common_steps, nat_tests)
 
 pub sign_same : (s : Bool) → sign_eq s s ≡ true
-sign_same true = refl
-sign_same false = refl
+sign_same v1 = grind (arith, common_steps, nat_tests)
 
 place_known : (r k : ℕ) (s : Bool) (x : Name) → is_place_of r k s x ≡ true → x ≡ place r k s
-place_known r k s free h = absurd (false≢true h)
-place_known r k s (handle _) h = absurd (false≢true h)
-place_known r k s (place q j t) h =
-    let (a, b) = and_parts (eqb r q) (eqb k j && sign_eq s t) h in
-    let (c, d) = and_parts (eqb k j) (sign_eq s t) b in
-    let e = eqb-true r q a in
-    let f = eqb-true k j c in
-    let g = same_sign s t d in
-    cc
+place_known v1 v2 v3 v4 v5 = grind (arith, common_steps, nat_tests)
 
 place_is : (r k : ℕ) (s : Bool) → is_place_of r k s (place r k s) ≡ true
-place_is r k s = and_from (eqb r r) (eqb k k && sign_eq s s) (eq-eqb r r refl) (and_from (eqb k k) (sign_eq s s) (eq-eqb k k refl) (sign_same s))
+place_is r k s = grind (arith, common_steps, nat_tests)
 
 pub handle_known : (r : ℕ) (x : Name) → is_handle_of r x ≡ true → x ≡ handle r
-handle_known r free h = absurd (false≢true h)
-handle_known r (place _ _ _) h = absurd (false≢true h)
-handle_known r (handle q) h = ap handle (sym (eqb-true r q h))
+handle_known v1 v2 v3 = grind (arith, common_steps, nat_tests)
 
 module _ (st : State) where
   -- where a name that is taken stands in its table
@@ -75,16 +62,13 @@ module _ (st : State) where
   reading_letter l a u ws w h = cond-true _ _ _ (lt-ltb a 15 h)
 
 pub flip_sign : (s : Bool) (f : Formula) (ws : List World) (w : ℕ) → meets (signed (not s) f) ws w ≡ meets (signed s (neg f)) ws w
-flip_sign true f ws w = refl
-flip_sign false f ws w = sym (not_not (meets f ws w))
+flip_sign v1 v2 v3 v4 = grind (arith, common_steps, nat_tests)
 
 pub fixed : (s : Bool) (v : Valuation) (ws : List World) (w : ℕ) → v 15 ≡ true → (obeys_one v (record { atom = 15; holds = not s }) ≡ meets (signed s falsum) ws w) × (obeys_one v (record { atom = 15; holds = s }) ≡ meets (signed s verum) ws w)
-fixed true v ws w e = (ap not e, e)
-fixed false v ws w e = (e, ap not e)
+fixed v1 v2 v3 v4 v5 = grind (arith, common_steps, nat_tests)
 
 pub lettered : (s : Bool) (v : Valuation) (a : ℕ) (f : Formula) (ws : List World) (w : ℕ) → v a ≡ meets f ws w → obeys_one v (record { atom = a; holds = s }) ≡ meets (signed s f) ws w
-lettered true v a f ws w e = e
-lettered false v a f ws w e = ap not e
+lettered v1 v2 v3 v4 v5 v6 v7 = grind (arith, common_steps, nat_tests)
 
 -- the places that a named place leads to are reached
 abbrev pub Kids : List Row → Bool → ℕ → Shape → Type 0

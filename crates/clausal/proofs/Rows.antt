@@ -1,9 +1,11 @@
 -- Lawful rules row by row: what a row's depth and literal are in terms of its children's, and what it says by its shape.
 -- the value of a row is made from those of the rows before it
-use Rattle.std.proofs.Common.{◌≡◌, ℕ, zero, suc, ◌+◌, ◌-◌, ◌<◌, ◌≤◌, max, Bool, true, false, not, ◌&&◌, ◌||◌, ltb, leb, List, [], ◌∷◌, ◌++◌, length, get_or, take, sym, refl, ap, ◌∙◌, ap₂, append_assoc, add-zero, zero-add, arith, length-append}
+use Rattle.std.proofs.lemmas.Grind.{common_steps}
+use Rattle.std.proofs.lemmas.Bool.Decides.{nat_tests}
+use Rattle.std.proofs.Common.{◌≡◌, ℕ, zero, suc, ◌+◌, ◌-◌, ◌<◌, ◌≤◌, max, Bool, true, false, not, ◌&&◌, ◌||◌, leb, List, [], ◌∷◌, ◌++◌, length, get_or, take, sym, refl, ap, ◌∙◌, ap₂, append_assoc, add-zero, zero-add, arith, length-append}
 use mathlib.Core.Bool.{false≢true}
 use Rattle.std.proofs.lemmas.List.{append-nil, get_or_at, take_at, get_or-take, length-take-le, get_or_push, length_push}
-use Rattle.std.proofs.lemmas.Bool.{and_parts, ltb-true, leb-true}
+use Rattle.std.proofs.lemmas.Bool.{and_parts, leb-true}
 use Rattle.modal.specs.Rows.{children_earlier, letter_in_range, row_fits, all_fit}
 use Rattle.modal.proofs.Built.{get_or_built, some_rows, few_rows, placed, form_at}
 use Rattle.clausal.specs.Clausal.{shape, wants_name}
@@ -58,14 +60,7 @@ pub record Lawful (rows : List Row) : Type 0 where
   pub shallow : (k : ℕ) → k < length rows → get_or (row_depths rows) k 0 ≤ 7
 
 row_ok : (k : ℕ) (r : Row) → children_earlier k r ≡ true → letter_in_range r ≡ true → RowOk k r
-row_ok k False c l = tt
-row_ok k True c l = tt
-row_ok k (Letter a) c l = let h = leb-true a 14 l in omega arith
-row_ok k (Not d) c l = ltb-true d k c
-row_ok k (And d e) c l = let (a, b) = and_parts (ltb d k) (ltb e k) c in (ltb-true d k a, ltb-true e k b)
-row_ok k (Or d e) c l = let (a, b) = and_parts (ltb d k) (ltb e k) c in (ltb-true d k a, ltb-true e k b)
-row_ok k (Box d) c l = ltb-true d k c
-row_ok k (Diamond d) c l = ltb-true d k c
+row_ok v1 v2 v3 v4 = grind (arith, common_steps, nat_tests)
 
 depths_fit : (ds : List ℕ) (rs : List Row) → all_fit ds rs ≡ true → (k : ℕ) → k < length rs → get_or (built depth_of ds rs) (length ds + k) 0 ≤ 7
 depths_fit ds [] h k l = absurd (omega arith)
@@ -149,12 +144,10 @@ says_shape F s ws w (all c) = every (meets (signed s (F c)) ws) (world ws w).suc
 says_shape F s ws w (one c) = some (meets (signed s (F c)) ws) (world ws w).successors
 
 not_and : (a b : Bool) → not (a && b) ≡ not a || not b
-not_and true b = refl
-not_and false b = refl
+not_and v1 v2 = grind (arith, common_steps, nat_tests)
 
 not_or : (a b : Bool) → not (a || b) ≡ not a && not b
-not_or true b = refl
-not_or false b = refl
+not_or v1 v2 = grind (arith, common_steps, nat_tests)
 
 not_every : {A : Type 0} (p : A → Bool) (xs : List A) → not (every p xs) ≡ some (λ x. not (p x)) xs
 not_every p [] = refl
@@ -187,15 +180,4 @@ Below k (all c) = c < k
 Below k (one c) = c < k
 
 pub shape_below : (k : ℕ) (r : Row) (s : Bool) → RowOk k r → Below k (shape r s)
-shape_below k False s o = tt
-shape_below k True s o = tt
-shape_below k (Letter a) s o = tt
-shape_below k (Not c) s o = tt
-shape_below k (And c e) true o = o
-shape_below k (And c e) false o = o
-shape_below k (Or c e) true o = o
-shape_below k (Or c e) false o = o
-shape_below k (Box c) true o = o
-shape_below k (Box c) false o = o
-shape_below k (Diamond c) true o = o
-shape_below k (Diamond c) false o = o
+shape_below v1 v2 v3 v4 = grind (arith, common_steps, nat_tests)

@@ -1,4 +1,6 @@
 -- Completeness: the root of a complete tree meets what its valuation names.
+use Rattle.std.proofs.lemmas.Grind.{common_steps}
+use Rattle.std.proofs.lemmas.Bool.Decides.{nat_tests}
 use Rattle.std.proofs.Common.{◌≡◌, ℕ, suc, ◌+◌, ◌-◌, ◌<◌, Bool, true, not, ◌&&◌, ltb, ◌⊎◌, List, [], ◌∷◌, length, get_or, sym, refl, ap, ◌∙◌, subst, inl, inr, arith}
 use Rattle.std.proofs.lemmas.Bool.{and_from, or_left, or_right, eq-eqb, lt-ltb, both_ways}
 use Rattle.clausal.proofs.Flat.{model_of, Sits, SitsAll, sits_alone}
@@ -36,11 +38,7 @@ abbrev Holding : Valuation → List Literal → Type 0
 Holding v xs = (x : Literal) × In x xs × (obeys_one v x ≡ true)
 
 only : (v : Valuation) (y : Literal) → Holding v (y ∷ []) → obeys_one v y ≡ true
-only v y (x, i, o) = go i o
-  where
-    go : {x : Literal} → In x (y ∷ []) → obeys_one v x ≡ true → obeys_one v y ≡ true
-    go here o = o
-    go (there j) o = elim j [ ]
+only v y v3 = grind (arith, common_steps, nat_tests)
 
 of_two : (v : Valuation) (y z : Literal) → Holding v (y ∷ (z ∷ [])) → (obeys_one v y ≡ true) ⊎ (obeys_one v z ≡ true)
 of_two v y z (x, i, o) = go i o

@@ -3,7 +3,7 @@ use Rattle.std.proofs.Common.{◌≡◌, ℕ, ◌<◌, Bool, true, false, cond, 
 use mathlib.Core.Bool.{false≢true}
 use Rattle.std.proofs.lemmas.Bool.{or_cases, or_left, or_right, eq-eqb, eqb-true, and_parts, and_from}
 use Rattle.lists.specs.Lists.{In, here, there}
-use Rattle.lists.proofs.Truth.{or_false}
+use Rattle.std.proofs.Math.Bool.{or-false}
 use Rattle.atoms.specs.Bits.{bit}
 use Rattle.atoms.specs.Clauses.{with_literal, clause_from}
 use Rattle.atoms.specs.declared.clauses.Clause.{Clause}
@@ -23,8 +23,8 @@ none_of = record { small = λ x i. elim i [ ]; within = λ x h e. absurd (go x.h
 holds_with : (c : Clause) (a : ℕ) (s : Bool) (b : ℕ) (t : Bool) → a < 64 → has_literal (with_literal c (record { atom = a; holds = s })) (record { atom = b; holds = t }) ≡ (has_literal c (record { atom = b; holds = t }) || (sign_eq s t && eqb a b))
 holds_with c a true b true l = has_with c.plain.bits a b l
 holds_with c a false b false l = has_with c.negated.bits a b l
-holds_with c a true b false l = sym (or_false (bit c.negated.bits b))
-holds_with c a false b true l = sym (or_false (bit c.plain.bits b))
+holds_with c a true b false l = sym (or-false (bit c.negated.bits b))
+holds_with c a false b true l = sym (or-false (bit c.plain.bits b))
 
 pub one_more : {xs : List Literal} {c : Clause} (x : Literal) → x.atom < 64 → ClauseOf xs c → ClauseOf (x ∷ xs) (with_literal c x)
 one_more {xs} {c} x h k = record {

@@ -1,7 +1,8 @@
 // Why a rule is not taken in.
-ghost use Rattle.std.specs.Prelude.{◌≡◌};
 ghost use Rattle.clausal.specs.Faults.{add_refusal};
 
+use modal::faults::Fault;
+use std::error::Error;
 use std::fmt;
 
 /// Why a rule is not added.
@@ -10,29 +11,8 @@ pub enum AddFault {
     /// Sixteen rules are held.
     TooManyRules,
     /// The lowest level that would have more than 48 names.
+    // A number, as the detail of a refusal is, so that the fault can say whatever it could.
     TooManyNames(u8),
-}
-
-impl AddFault {
-    /// The number of the refusal.
-    pub fn number(self) -> u8
-        ensures { result ≡ (add_refusal self).number }
-    {
-        match self {
-            AddFault::TooManyRules => 20,
-            AddFault::TooManyNames(_) => 21,
-        }
-    }
-
-    /// The detail of the refusal.
-    pub fn detail(self) -> u64
-        ensures { result ≡ (add_refusal self).detail }
-    {
-        match self {
-            AddFault::TooManyRules => 0,
-            AddFault::TooManyNames(level) => u64::from(level),
-        }
-    }
 }
 
 impl fmt::Display for AddFault {
@@ -40,6 +20,26 @@ impl fmt::Display for AddFault {
         match *self {
             AddFault::TooManyRules => write!(f, "16 rules are held"),
             AddFault::TooManyNames(level) => write!(f, "more than 48 names at level {level}"),
+        }
+    }
+}
+
+impl Error for AddFault {}
+
+impl Fault for AddFault {
+    ghost refusal = { add_refusal };
+
+    fn number(self) -> u8 {
+        match self {
+            AddFault::TooManyRules => 20,
+            AddFault::TooManyNames(_) => 21,
+        }
+    }
+
+    fn detail(self) -> u64 {
+        match self {
+            AddFault::TooManyRules => 0,
+            AddFault::TooManyNames(level) => u64::from(level),
         }
     }
 }

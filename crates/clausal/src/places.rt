@@ -1,8 +1,10 @@
+use atoms::levels::Level;
+
 /// A row of a rule with a sign, at a level.
 #[derive(Clone, Copy, PartialEq, Eq, Debug)]
 pub struct Place {
     pub row: u8,
     /// Plus, or minus: the row's negation.
     pub plus: bool,
-    pub level: u8,
+    pub level: Level,
 }

@@ -9,6 +9,7 @@ mod tests {
     use atoms::sets::AtomSet;
     use clausal::faults::AddFault;
     use clausal::modal_clauses::ModalClause;
+    use modal::faults::Fault;
     use modal::rule::Rule;
     use naming::table::{Added, Table};
     use std::alloc::Global;
@@ -25,29 +26,22 @@ mod tests {
 
     // A letter, and rows that each join the row before with the letter: a name for each, and one for the handle.
     fn joined(heap: Global, count: u8) -> Result<Rule, Fail> {
-        let mut bytes = Vec::new(heap);
-        bytes.push(2)?;
-        bytes.push(0)?;
+        let mut bytes = vec![in heap; 2, 0]?;
         for row in 0..count {
-            bytes.push(4)?;
-            bytes.push(row)?;
-            bytes.push(0)?;
+            bytes.extend_from_slice(&[4, row, 0])?;
         }
         rule(bytes.as_slice())
     }
 
     fn number(answer: Result<Added, AddFault>) -> Result<u8, AddFault> {
-        match answer {
-            Ok(added) => Ok(added.number),
-            Err(fault) => Err(fault),
-        }
+        answer.map(|added| added.number)
     }
 
     // The clause of two sets of atoms, each as bits.
     fn clause(plain: u64, negated: u64) -> Clause {
         Clause {
-            plain: AtomSet { bits: plain },
-            negated: AtomSet { bits: negated },
+            plain: AtomSet::from(plain),
+            negated: AtomSet::from(negated),
         }
     }
 
@@ -86,9 +80,6 @@ mod tests {
     fn both_signs_have_names(rt: HostRuntime) -> Result<(), Fail> {
         let mut table = Table::new();
         let both = rule(&[2, 0, 2, 1, 6, 1, 4, 0, 2, 3, 3, 5, 3, 4])?;
-        let Some(root) = Level::new(0) else {
-            return Err(Fail::new("0 is a level"));
-        };
         let added = table.add(both)?;
         let (p, q) = (0, 1);
         let definitions = [
@@ -98,7 +89,7 @@ mod tests {
             clause(1 << 18 | 1 << 19, 1 << 20),
             clause(1 << 20, 1 << 21),
         ];
-        assert_eq!(rt; added.definitions.at(root), definitions.as_slice());
+        assert_eq!(rt; added.definitions.at(Level::ROOT), definitions.as_slice());
         let every = ModalClause {
             name: 16,
             literal: Literal {
@@ -106,7 +97,7 @@ mod tests {
                 holds: true,
             },
         };
-        assert_eq!(rt; table.boxes(root), [every].as_slice());
+        assert_eq!(rt; table.boxes(Level::ROOT), [every].as_slice());
         let some = ModalClause {
             name: 17,
             literal: Literal {
@@ -114,11 +105,11 @@ mod tests {
                 holds: false,
             },
         };
-        assert_eq!(rt; table.diamonds(root), [some].as_slice());
+        assert_eq!(rt; table.diamonds(Level::ROOT), [some].as_slice());
         // the next rule takes the name after the last
         let next = table.add(rule(&LETTER)?)?;
         assert_eq!(rt;
-            next.definitions.at(root),
+            next.definitions.at(Level::ROOT),
             [clause(1 << p, 1 << 22)].as_slice()
         );
         Ok(())

@@ -4,6 +4,10 @@
 //! measures how many questions a second the oracles answer.
 #![tactic(auto)]
 
+use exhaustive::Exhaustive;
+use oracle::Oracle;
+use plain::Plain;
+use search::Searcher;
 use std::{env, io};
 
 mod random;
@@ -11,7 +15,7 @@ mod rounds;
 mod timing;
 
 use random::{Random, Shape};
-use rounds::{Oracles, Tally, round};
+use rounds::Comparison;
 use timing::time;
 
 const ROUNDS: u8 = 100;
@@ -20,48 +24,28 @@ const ROUNDS: u8 = 100;
 const FULL: u16 = 300;
 
 fn compare(rt: &HostRuntime) -> io::Result<()> {
-    let mut oracles = Oracles::new();
-    let mut random = Random::new(0x9e37_79b9_7f4a_7c15);
-    let mut tally = Tally::new();
+    let heap = rt.alloc();
+    let mut oracles: Vec<Box<dyn Oracle + Drop>> = Vec::new(heap);
+    oracles.push(Box::new(heap, Searcher::new())?)?;
+    oracles.push(Box::new(heap, Plain::new())?)?;
+    oracles.push(Box::new(heap, Exhaustive::new())?)?;
+    let random = Random::new(0x9e37_79b9_7f4a_7c15);
+    let mut comparison = Comparison::new(oracles, random);
     for number in 0..ROUNDS {
         let shape = Shape {
             first: number % 56,
             atoms: 3 + number % 6,
             literals: 1 + number % 4,
         };
-        round(
-            rt.alloc(),
-            &mut oracles,
-            &mut random,
-            u16::from(number % 40),
-            shape,
-            &mut tally,
-        )?;
+        comparison.round(heap, shape, u16::from(number % 40))?;
     }
     let shape = Shape {
         first: 10,
         atoms: 9,
         literals: 5,
     };
-    round(
-        rt.alloc(),
-        &mut oracles,
-        &mut random,
-        FULL,
-        shape,
-        &mut tally,
-    )?;
-    let Tally {
-        questions,
-        satisfiable,
-        contradictory,
-        refused,
-        faults,
-    } = tally;
-    println!(rt;
-        "{questions} questions: {satisfiable} satisfiable, {contradictory} under contradictory assumptions"
-    )?;
-    println!(rt; "{refused} entries refused, {faults} faults")
+    comparison.round(heap, shape, FULL)?;
+    println!(rt; "{}", comparison.tally())
 }
 
 fn main(rt: HostRuntime) -> io::Result<()> {

@@ -1,7 +1,8 @@
 // Random clauses and assumptions.
+ghost use Rattle.std.specs.Prelude.{◌+◌, ◌<◌, ◌≤◌};
+
 use atoms::assumptions::Assumptions;
 use atoms::clauses::{Clause, Entry, Literal, Mark};
-use atoms::sets::AtomSet;
 
 /// A generator of random numbers (xorshift).
 #[derive(Drop)]
@@ -9,12 +10,14 @@ pub(crate) struct Random {
     state: u64,
 }
 
-/// What to draw from: `atoms` atoms from `first` on, with `literals` literals to a clause.
+/// What to draw from: one or more atoms, `atoms` from `first` on, with `literals` literals to a clause.
 #[derive(Clone, Copy)]
 pub(crate) struct Shape {
     pub(crate) first: u8,
     pub(crate) atoms: u8,
     pub(crate) literals: u8,
+    ghost some: { 0 < atoms },
+    ghost within: { first + atoms ≤ 64 },
 }
 
 impl Random {
@@ -29,40 +32,35 @@ impl Random {
         self.state
     }
 
-    // A number below `bound`, or 0 where the bound is 0.
-    pub(crate) fn below(&mut self, bound: u8) -> u8 {
-        if bound == 0 {
-            return 0;
-        }
+    // A number below `bound`.
+    pub(crate) fn below(&mut self, bound: u8) -> u8
+        requires { 0 < bound }
+        ensures { result < bound }
+    {
         (self.number() % u64::from(bound)) as u8
+    }
+
+    pub(crate) fn mark(&mut self) -> Mark {
+        if self.below(2) == 0 {
+            Mark::Definition
+        } else {
+            Mark::Learnt
+        }
     }
 
     fn literal(&mut self, shape: Shape) -> Literal {
         Literal {
-            atom: shape.first.saturating_add(self.below(shape.atoms)),
+            atom: shape.first + self.below(shape.atoms),
             holds: self.below(2) == 0,
         }
     }
 
-    fn clause(&mut self, shape: Shape) -> Clause {
-        let mut plain = AtomSet::NONE;
-        let mut negated = AtomSet::NONE;
-        for _ in 0..shape.literals {
-            let literal = self.literal(shape);
-            if literal.holds {
-                plain = plain.insert(literal.atom);
-            } else {
-                negated = negated.insert(literal.atom);
-            }
-        }
-        Clause { plain, negated }
-    }
-
     pub(crate) fn entry(&mut self, shape: Shape, mark: Mark) -> Entry {
-        Entry {
-            clause: self.clause(shape),
-            mark,
+        let mut clause = Clause::NONE;
+        for _ in 0..shape.literals {
+            clause = clause.with(self.literal(shape));
         }
+        Entry { clause, mark }
     }
 
     /// Assumptions of so many literals, which may contradict each other.

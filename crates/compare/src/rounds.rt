@@ -1,73 +1,49 @@
-// The three oracles on the same entries and questions, and what must be so of their answers.
+// Oracles on the same entries and questions, and what must be so of their answers.
 use crate::random::{Random, Shape};
 use atoms::assumptions::Assumptions;
 use atoms::clauses::{Entry, Mark, all_hold};
 use atoms::levels::Level;
 use atoms::sets::AtomSet;
-use exhaustive::Exhaustive;
+use oracle::Oracle;
 use oracle::answers::Solved;
 use oracle::entry_list::{DEFINITIONS, LEARNT};
-use oracle::{Oracle, satisfiable};
-use plain::Plain;
-use search::Searcher;
-use std::alloc::Global;
-use std::io;
+use std::alloc::{AllocError, Global};
+use std::fmt;
 
 /// What was seen.
-#[derive(Clone, Copy)]
+#[derive(Clone, Copy, Default)]
 pub(crate) struct Tally {
-    pub(crate) questions: u32,
-    pub(crate) satisfiable: u32,
-    pub(crate) contradictory: u32,
-    pub(crate) refused: u32,
-    pub(crate) faults: u32,
+    questions: u32,
+    satisfiable: u32,
+    contradictory: u32,
+    refused: u32,
+    faults: u32,
+}
+
+impl fmt::Display for Tally {
+    fn fmt<W: fmt::Write>(&self, f: &mut fmt::Formatter<W>) -> fmt::Result {
+        let Tally {
+            questions,
+            satisfiable,
+            contradictory,
+            refused,
+            faults,
+        } = *self;
+        writeln!(
+            f,
+            "{questions} questions: {satisfiable} satisfiable, {contradictory} under contradictory assumptions"
+        )?;
+        write!(f, "{refused} entries refused, {faults} faults")
+    }
+}
+
+fn count(counter: &mut u32, seen: bool) {
+    *counter = counter.saturating_add(u32::from(seen));
 }
 
 impl Tally {
-    pub(crate) fn new() -> Tally {
-        Tally {
-            questions: 0,
-            satisfiable: 0,
-            contradictory: 0,
-            refused: 0,
-            faults: 0,
-        }
-    }
-
     fn expect(&mut self, right: bool) {
-        if !right {
-            self.faults = self.faults.saturating_add(1);
-        }
-    }
-}
-
-/// The three oracles.
-#[derive(Drop)]
-pub(crate) struct Oracles {
-    search: Searcher,
-    plain: Plain,
-    exhaustive: Exhaustive,
-}
-
-impl Oracles {
-    pub(crate) fn new() -> Oracles {
-        Oracles {
-            search: Searcher::new(),
-            plain: Plain::new(),
-            exhaustive: Exhaustive::new(),
-        }
-    }
-
-    fn forget(&mut self) {
-        self.search.forget();
-        self.plain.forget();
-        self.exhaustive.forget();
-    }
-
-    fn clear(&mut self) {
-        self.search.clear();
-        self.plain.clear();
-        self.exhaustive.clear();
+        count(&mut self.faults, !right);
     }
 }
 
@@ -86,38 +62,13 @@ impl Held {
         }
     }
 
-    fn marked(&self, mark: Mark) -> usize {
-        let mut count: usize = 0;
-        for entry in self.entries.iter() {
-            if entry.mark == mark {
-                count = count.saturating_add(1);
-            }
-        }
-        count
-    }
-
-    // Whether the entry is to be taken; then it is held.
-    fn take(&mut self, entry: Entry) -> io::Result<bool> {
-        let limit = match entry.mark {
+    fn has_room(&self, mark: Mark) -> bool {
+        let limit = match mark {
             Mark::Definition => DEFINITIONS,
             Mark::Learnt => LEARNT,
         };
-        if self.marked(entry.mark) >= limit {
-            return Ok(false);
-        }
-        self.entries.push(entry)?;
-        Ok(true)
-    }
-
-    fn forget(&mut self, heap: Global) -> io::Result<()> {
-        let mut kept = Vec::new(heap);
-        for entry in self.entries.iter() {
-            if entry.mark == Mark::Definition {
-                kept.push(*entry)?;
-            }
-        }
-        self.entries = kept;
-        Ok(())
+        let marked = self.entries.iter().filter(|entry| entry.mark == mark);
+        marked.count() < limit
     }
 }
 
@@ -131,130 +82,125 @@ fn is_part(core: Assumptions, under: Assumptions) -> bool {
         && core.without.difference(under.without).is_empty()
 }
 
-fn is_valuation(answer: Solved) -> bool {
-    match answer {
-        Solved::Valuation(_) => true,
-        Solved::Core(_) => false,
-    }
-}
-
 // Whether the answer is right: another oracle says whether the core holds up.
-fn stands<O: Oracle>(answer: Solved, held: &Held, under: Assumptions, other: &mut O) -> bool {
+fn stands(answer: Solved, held: &Held, under: Assumptions, other: &mut dyn Oracle) -> bool {
     match answer {
-        Solved::Valuation(valuation) => obeys(valuation, under)
-            && all_hold(held.entries.as_slice(), valuation),
-        Solved::Core(core) => is_part(core, under) && !satisfiable(other, held.level, core),
+        Ok(valuation) => obeys(valuation, under) && all_hold(&held.entries, valuation),
+        Err(core) => is_part(core, under) && other.solve(held.level, core).is_err(),
     }
 }
 
-// Offers the entry to all three.
-fn offer(
-    oracles: &mut Oracles,
-    held: &mut Held,
-    entry: Entry,
-    tally: &mut Tally,
-) -> io::Result<()> {
-    let taken = held.take(entry)?;
-    if !taken {
-        tally.refused = tally.refused.saturating_add(1);
-    }
-    let level = held.level;
-    let search = oracles.search.take(level, entry);
-    let plain = oracles.plain.take(level, entry);
-    let exhaustive = oracles.exhaustive.take(level, entry);
-    tally.expect(search == taken);
-    tally.expect(plain == taken);
-    tally.expect(exhaustive == taken);
-    Ok(())
+/// The oracles, what is drawn for them, and what was seen.
+#[derive(Drop)]
+pub(crate) struct Comparison {
+    oracles: Vec<Box<dyn Oracle + Drop>>,
+    random: Random,
+    tally: Tally,
 }
 
-// Asks all three, and compares.
-fn ask(oracles: &mut Oracles, held: &Held, under: Assumptions, tally: &mut Tally) {
-    let search = oracles.search.solve(held.level, under);
-    let plain = oracles.plain.solve(held.level, under);
-    let exhaustive = oracles.exhaustive.solve(held.level, under);
-    tally.questions = tally.questions.saturating_add(1);
-    if under.clashes() {
-        tally.contradictory = tally.contradictory.saturating_add(1);
+impl Comparison {
+    pub(crate) fn new(oracles: Vec<Box<dyn Oracle + Drop>>, random: Random) -> Comparison {
+        Comparison {
+            oracles,
+            random,
+            tally: Tally::default(),
+        }
     }
-    let verdict = is_valuation(exhaustive);
-    if verdict {
-        tally.satisfiable = tally.satisfiable.saturating_add(1);
-    }
-    tally.expect(is_valuation(search) == verdict);
-    tally.expect(is_valuation(plain) == verdict);
-    tally.expect(stands(search, held, under, &mut oracles.plain));
-    tally.expect(stands(plain, held, under, &mut oracles.exhaustive));
-    tally.expect(stands(exhaustive, held, under, &mut oracles.search));
-}
 
-fn ask_some(
-    oracles: &mut Oracles,
-    held: &Held,
-    random: &mut Random,
-    shape: Shape,
-    tally: &mut Tally,
-) {
-    for literals in 0..5 {
-        let under = random.assumptions(shape, literals);
-        ask(oracles, held, under, tally);
+    pub(crate) fn tally(&self) -> Tally {
+        self.tally
     }
-}
 
-// Draws entries at two levels.
-fn fill(
-    oracles: &mut Oracles,
-    held: &mut Held,
-    other: &mut Held,
-    random: &mut Random,
-    entries: u16,
-    shape: Shape,
-    tally: &mut Tally,
-) -> io::Result<()> {
-    for _ in 0..entries {
-        let mark = if random.below(2) == 0 {
-            Mark::Definition
-        } else {
-            Mark::Learnt
+    // Offers the entry to all oracles.
+    fn offer(&mut self, held: &mut Held, entry: Entry) -> Result<(), AllocError> {
+        let room = held.has_room(entry.mark);
+        if room {
+            held.entries.push(entry)?;
+        }
+        count(&mut self.tally.refused, !room);
+        for oracle in &mut self.oracles {
+            self.tally
+                .expect(oracle.take(held.level, entry).is_ok() == room);
+        }
+        Ok(())
+    }
+
+    // Asks all oracles, and compares each answer with that of the one before, the first with the last.
+    fn ask(&mut self, held: &Held, under: Assumptions) {
+        let Some(last) = self.oracles.last_mut() else {
+            return;
         };
-        let entry = random.entry(shape, mark);
-        offer(oracles, held, entry, tally)?;
-        let entry = random.entry(shape, Mark::Definition);
-        offer(oracles, other, entry, tally)?;
+        let mut before = last.solve(held.level, under);
+        count(&mut self.tally.questions, true);
+        count(&mut self.tally.contradictory, under.clashes());
+        count(&mut self.tally.satisfiable, before.is_ok());
+        for oracle in &mut self.oracles {
+            let answer = oracle.solve(held.level, under);
+            self.tally.expect(answer.is_ok() == before.is_ok());
+            self.tally
+                .expect(stands(before, held, under, &mut **oracle));
+            before = answer;
+        }
     }
-    Ok(())
-}
 
-/// One round: entries at two levels, questions, forget, one more entry, questions, clear, questions.
-pub(crate) fn round(
-    heap: Global,
-    oracles: &mut Oracles,
-    random: &mut Random,
-    entries: u16,
-    shape: Shape,
-    tally: &mut Tally,
-) -> io::Result<()> {
-    let Some(level) = Level::new(random.below(7)) else {
-        return Ok(());
-    };
-    let Some(deepest) = Level::new(7) else {
-        return Ok(());
-    };
-    let mut held = Held::new(level, heap);
-    let mut other = Held::new(deepest, heap);
-    fill(
-        oracles, &mut held, &mut other, random, entries, shape, tally,
-    )?;
-    ask_some(oracles, &held, random, shape, tally);
-    ask_some(oracles, &other, random, shape, tally);
-    oracles.forget();
-    held.forget(heap)?;
-    ask_some(oracles, &held, random, shape, tally);
-    let entry = random.entry(shape, Mark::Learnt);
-    offer(oracles, &mut held, entry, tally)?;
-    ask_some(oracles, &held, random, shape, tally);
-    oracles.clear();
-    held.entries = Vec::new(heap);
-    ask_some(oracles, &held, random, shape, tally);
-    Ok(())
+    fn ask_some(&mut self, held: &Held, shape: Shape) {
+        for literals in 0..5 {
+            let under = self.random.assumptions(shape, literals);
+            self.ask(held, under);
+        }
+    }
+
+    // Draws entries at two levels.
+    fn fill(
+        &mut self,
+        held: &mut Held,
+        other: &mut Held,
+        shape: Shape,
+        entries: u16,
+    ) -> Result<(), AllocError> {
+        for _ in 0..entries {
+            let mark = self.random.mark();
+            let entry = self.random.entry(shape, mark);
+            self.offer(held, entry)?;
+            let entry = self.random.entry(shape, Mark::Definition);
+            self.offer(other, entry)?;
+        }
+        Ok(())
+    }
+
+    fn forget(&mut self, held: &mut Held) {
+        for oracle in &mut self.oracles {
+            oracle.forget();
+        }
+        held.entries.retain(|entry| entry.mark == Mark::Definition);
+    }
+
+    fn clear(&mut self, held: &mut Held) {
+        for oracle in &mut self.oracles {
+            oracle.clear();
+        }
+        held.entries.clear();
+    }
+
+    /// One round: entries at two levels, questions, forget, one more entry, questions, clear, questions.
+    pub(crate) fn round(
+        &mut self,
+        heap: Global,
+        shape: Shape,
+        entries: u16,
+    ) -> Result<(), AllocError> {
+        let mut held = Held::new(Level::new(self.random.below(7)).unwrap(), heap);
+        let mut other = Held::new(Level::DEEPEST, heap);
+        self.fill(&mut held, &mut other, shape, entries)?;
+        self.ask_some(&held, shape);
+        self.ask_some(&other, shape);
+        self.forget(&mut held);
+        self.ask_some(&held, shape);
+        let entry = self.random.entry(shape, Mark::Learnt);
+        self.offer(&mut held, entry)?;
+        self.ask_some(&held, shape);
+        self.clear(&mut held);
+        self.ask_some(&held, shape);
+        Ok(())
+    }
 }

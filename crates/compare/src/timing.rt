@@ -1,7 +1,10 @@
 // How many questions a second the oracles answer.
+ghost use Rattle.std.specs.Prelude.{◌<◌, ◌≤◌};
+
 use crate::random::{Random, Shape};
 use atoms::clauses::Mark;
 use atoms::levels::Level;
+use oracle::answers::LevelFull;
 use oracle::entry_list::{DEFINITIONS, LEARNT};
 use oracle::{Oracle, satisfiable};
 use plain::Plain;
@@ -14,6 +17,7 @@ const QUESTIONS: u32 = 20_000;
 // So many random entries of one mark, with `literals` literals each.
 #[derive(Clone, Copy)]
 struct Filling {
+    mark: Mark,
     entries: usize,
     literals: u8,
 }
@@ -24,6 +28,8 @@ struct Measurement {
     atoms: u8,
     definitions: Filling,
     learnt: Filling,
+    ghost some: { 0 < atoms },
+    ghost within: { atoms ≤ 64 },
 }
 
 // Levels as full as they get. The plain oracle would count for too long on them.
@@ -31,10 +37,12 @@ const LARGE: [Measurement; 2] = [
     Measurement {
         atoms: 64,
         definitions: Filling {
+            mark: Mark::Definition,
             entries: DEFINITIONS,
             literals: 3,
         },
         learnt: Filling {
+            mark: Mark::Learnt,
             entries: LEARNT,
             literals: 3,
         },
@@ -42,10 +50,12 @@ const LARGE: [Measurement; 2] = [
     Measurement {
         atoms: 64,
         definitions: Filling {
+            mark: Mark::Definition,
             entries: DEFINITIONS,
             literals: 3,
         },
         learnt: Filling {
+            mark: Mark::Learnt,
             entries: LEARNT,
             literals: 2,
         },
@@ -56,10 +66,12 @@ const SMALL: [Measurement; 2] = [
     Measurement {
         atoms: 10,
         definitions: Filling {
+            mark: Mark::Definition,
             entries: 20,
             literals: 3,
         },
         learnt: Filling {
+            mark: Mark::Learnt,
             entries: 20,
             literals: 3,
         },
@@ -67,10 +79,12 @@ const SMALL: [Measurement; 2] = [
     Measurement {
         atoms: 10,
         definitions: Filling {
+            mark: Mark::Definition,
             entries: 60,
             literals: 3,
         },
         learnt: Filling {
+            mark: Mark::Learnt,
             entries: 60,
             literals: 3,
         },
@@ -87,83 +101,87 @@ impl Measurement {
     }
 }
 
-fn fill<O: Oracle>(
-    oracle: &mut O,
-    level: Level,
-    random: &mut Random,
-    mark: Mark,
-    entries: usize,
-    shape: Shape,
-) {
-    for _ in 0..entries {
-        let _ = oracle.take(level, random.entry(shape, mark));
-    }
+// An oracle whose root level is filled and asked.
+#[derive(Drop)]
+struct Timed<O> {
+    name: &'static str,
+    oracle: O,
+    root: Level,
+    random: Random,
 }
 
-// Asks the questions, each under two random literals, and says how many were satisfiable.
-fn ask<O: Oracle>(oracle: &mut O, level: Level, random: &mut Random, shape: Shape) -> u32 {
-    let mut found: u32 = 0;
-    for _ in 0..QUESTIONS {
-        let under = random.assumptions(shape, 2);
-        if satisfiable(oracle, level, under) {
-            found = found.saturating_add(1);
+impl<O: Oracle + Drop> Timed<O> {
+    fn new(name: &'static str, oracle: O) -> Timed<O> {
+        Timed {
+            name,
+            oracle,
+            root: Level::ROOT,
+            random: Random::new(1),
         }
     }
-    found
-}
 
-fn measure<O: Oracle>(
-    rt: &HostRuntime,
-    name: &str,
-    oracle: &mut O,
-    measurement: Measurement,
-) -> io::Result<()> {
-    let Some(level) = Level::new(0) else {
-        return Ok(());
-    };
-    let Measurement {
-        atoms,
-        definitions: Filling { entries, literals },
-        learnt,
-    } = measurement;
-    let (taught, short) = (learnt.entries, learnt.literals);
-    let shape = measurement.shape(literals);
-    let mut random = Random::new(1);
-    oracle.clear();
-    fill(oracle, level, &mut random, Mark::Definition, entries, shape);
-    fill(
-        oracle,
-        level,
-        &mut random,
-        Mark::Learnt,
-        taught,
-        measurement.shape(short),
-    );
-    let start = Instant::now(rt)?;
-    let found = ask(oracle, level, &mut random, shape);
-    let micros = start.elapsed(rt)?.as_micros().max(1);
-    let rate = u128::from(QUESTIONS) * 1_000_000 / micros;
-    println!(rt;
-        "{name}, {atoms} atoms, {entries} + {taught} entries of {literals} and {short} literals: {rate} questions a second, {found} of {QUESTIONS} satisfiable"
-    )
-}
-
-fn measure_all<O: Oracle>(
-    rt: &HostRuntime,
-    name: &str,
-    oracle: &mut O,
-    measurements: &[Measurement],
-) -> io::Result<()> {
-    for measurement in measurements {
-        measure(rt, name, oracle, *measurement)?;
+    fn fill(&mut self, filling: Filling, shape: Shape) -> Result<(), LevelFull> {
+        for _ in 0..filling.entries {
+            let entry = self.random.entry(shape, filling.mark);
+            self.oracle.take(self.root, entry)?;
+        }
+        Ok(())
     }
-    Ok(())
+
+    // Fills the level anew, always with the same entries.
+    fn prepare(&mut self, measurement: Measurement) -> Result<(), LevelFull> {
+        let Measurement {
+            definitions,
+            learnt,
+            ..
+        } = measurement;
+        self.oracle.clear();
+        self.random = Random::new(1);
+        self.fill(definitions, measurement.shape(definitions.literals))?;
+        self.fill(learnt, measurement.shape(learnt.literals))
+    }
+
+    // Asks the questions, each under two random literals, and says how many were satisfiable.
+    fn ask(&mut self, shape: Shape) -> usize {
+        let held = (0..QUESTIONS).filter(|_| {
+            let under = self.random.assumptions(shape, 2);
+            satisfiable(&mut self.oracle, self.root, under)
+        });
+        held.count()
+    }
+
+    fn measure(&mut self, rt: &HostRuntime, measurement: Measurement) -> io::Result<()> {
+        let name = self.name;
+        if let Err(refusal) = self.prepare(measurement) {
+            return println!(rt; "{name}: {refusal}");
+        }
+        let Measurement {
+            atoms,
+            definitions,
+            learnt,
+        } = measurement;
+        let start = Instant::now(rt)?;
+        let found = self.ask(measurement.shape(definitions.literals));
+        let micros = start.elapsed(rt)?.as_micros().max(1);
+        let rate = u128::from(QUESTIONS) * 1_000_000 / micros;
+        println!(rt;
+            "{name}, {atoms} atoms, {} + {} entries of {} and {} literals: {rate} questions a second, {found} of {QUESTIONS} satisfiable",
+            definitions.entries, learnt.entries, definitions.literals, learnt.literals,
+        )
+    }
+
+    fn measure_all(&mut self, rt: &HostRuntime, measurements: &[Measurement]) -> io::Result<()> {
+        for measurement in measurements {
+            self.measure(rt, *measurement)?;
+        }
+        Ok(())
+    }
 }
 
 pub(crate) fn time(rt: &HostRuntime) -> io::Result<()> {
-    let mut search = Searcher::new();
-    let mut plain = Plain::new();
-    measure_all(rt, "search", &mut search, &LARGE)?;
-    measure_all(rt, "search", &mut search, &SMALL)?;
-    measure_all(rt, "plain", &mut plain, &SMALL)
+    let mut search = Timed::new("search", Searcher::new());
+    let mut plain = Timed::new("plain", Plain::new());
+    search.measure_all(rt, &LARGE)?;
+    search.measure_all(rt, &SMALL)?;
+    plain.measure_all(rt, &SMALL)
 }

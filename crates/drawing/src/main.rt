@@ -2,7 +2,6 @@
 //! rule, with both in words.
 #![tactic(auto)]
 
-use anyhow::anyhow;
 use page::check::{Checked, check};
 use page::drawing::Drawing;
 use sheet::tree::shown;
@@ -21,16 +20,14 @@ fn print(rt: &HostRuntime, checked: &Checked) -> anyhow::Result<()> {
         println!(rt; "  row {i}: {row}")?;
     }
     println!(rt; "drawing:")?;
-    let Ok(tree) = shown(&checked.sheet) else {
-        return Err(anyhow!("a sheet that was checked shows no tree"));
-    };
-    let drawing = Drawing(tree);
+    let drawing = Drawing(shown(&checked.sheet)?);
     print!(rt; "{drawing}")?;
-    if checked.met {
-        println!(rt; "verdict: world 0 meets the rule")?;
+    let meets = if checked.met {
+        "meets"
     } else {
-        println!(rt; "verdict: world 0 does not meet the rule")?;
-    }
+        "does not meet"
+    };
+    println!(rt; "verdict: world 0 {meets} the rule")?;
     Ok(())
 }
 

@@ -13,7 +13,7 @@ use atoms::clauses::{Entry, all_hold, named};
 use atoms::levels::Level;
 use atoms::sets::AtomSet;
 use oracle::Oracle;
-use oracle::answers::Solved;
+use oracle::answers::{LevelFull, Solved};
 use oracle::store::Store;
 
 // A valuation that makes every entry true and differs from `base` at most at the atoms of `free`.
@@ -21,16 +21,13 @@ fn find(entries: &[Entry], free: AtomSet, base: AtomSet) -> Option<AtomSet>
     ensures { Ends entries.now free base result }
 {
     let Some(atom) = free.lowest() else {
-        return if all_hold(entries, base) {
-            Some(base)
-        } else {
-            None
-        };
+        return all_hold(entries, base).then_some(base);
     };
     let rest = free.remove(atom);
+    // A match, since the closure of an `or_else` calls `find` again and would need a contract of its own.
     match find(entries, rest, base.insert(atom)) {
-        Some(valuation) => Some(valuation),
         None => find(entries, rest, base.remove(atom)),
+        found => found,
     }
 }
 
@@ -54,24 +51,21 @@ impl Exhaustive {
 impl Oracle for Exhaustive {
     ghost entries = { exhaustive_entries };
 
-    fn take(&mut self, level: Level, entry: Entry) -> bool {
+    fn take(&mut self, level: Level, entry: Entry) -> Result<(), LevelFull> {
         self.store.take(level, entry)
     }
 
     fn solve(&mut self, level: Level, under: Assumptions) -> Solved
-        ensures solves { Solves (exhaustive_entries self.old) (exhaustive_entries self.new) level.number under result }
+        ensures solves { Solves (exhaustive_entries self.old) (exhaustive_entries self.new) level under result }
         ensures core { WholeCore under result }
     {
         if under.clashes() {
-            return Solved::Core(under);
+            return Err(under);
         }
         let entries = self.store.entries(level);
         let decided = under.within.union(under.without);
         let free = named(entries).difference(decided);
-        match find(entries, free, under.within) {
-            Some(valuation) => Solved::Valuation(valuation),
-            None => Solved::Core(under),
-        }
+        find(entries, free, under.within).ok_or(under)
     }
 
     fn forget(&mut self) {
@@ -87,7 +81,6 @@ impl Oracle for Exhaustive {
 mod tests {
     use super::*;
     use atoms::clauses::{Clause, Mark};
-    use std::test::Fail;
 
     fn either(a: u8, b: u8) -> Entry {
         Entry {
@@ -100,43 +93,31 @@ mod tests {
     }
 
     #[test]
-    fn contradictory_assumptions_are_the_core(rt: HostRuntime) -> Result<(), Fail> {
-        let Some(level) = Level::new(0) else {
-            assert!(rt; false);
-            return Ok(());
-        };
+    fn contradictory_assumptions_are_the_core(rt: HostRuntime) {
         let under = Assumptions {
             within: AtomSet::LETTERS,
             without: AtomSet::LETTERS,
         };
-        assert_eq!(rt; Exhaustive::new().solve(level, under), Solved::Core(under));
-        Ok(())
+        assert_eq!(rt; Exhaustive::new().solve(Level::ROOT, under), Err(under));
     }
 
     #[test]
-    fn the_other_atom_is_in(rt: HostRuntime) -> Result<(), Fail> {
-        let Some(level) = Level::new(7) else {
-            assert!(rt; false);
-            return Ok(());
-        };
+    fn the_other_atom_is_in(rt: HostRuntime) {
+        let level = Level::DEEPEST;
         let mut oracle = Exhaustive::new();
-        assert!(rt; oracle.take(level, either(20, 63)));
+        assert!(rt; oracle.take(level, either(20, 63)).is_ok());
         let under = Assumptions {
             within: AtomSet::NONE,
             without: AtomSet::NONE.insert(20),
         };
         let valuation = AtomSet::NONE.insert(63);
-        assert_eq!(rt; oracle.solve(level, under), Solved::Valuation(valuation));
+        assert_eq!(rt; oracle.solve(level, under), Ok(valuation));
         let under = Assumptions {
             within: AtomSet::NONE,
             without: under.without.insert(63),
         };
-        assert_eq!(rt; oracle.solve(level, under), Solved::Core(under));
+        assert_eq!(rt; oracle.solve(level, under), Err(under));
         oracle.forget();
-        assert_eq!(rt;
-            oracle.solve(level, under),
-            Solved::Valuation(AtomSet::NONE)
-        );
-        Ok(())
+        assert_eq!(rt; oracle.solve(level, under), Ok(AtomSet::NONE));
     }
 }

@@ -1,5 +1,5 @@
 -- The length of a list is the number of its items, and what a push appends.
-use Rattle.std.proofs.Common.{◌≡◌, ℕ, ◌<◌, Bool, cond, ltb, List, [], ◌∷◌, ◌++◌, length, ◌∙◌, arith}
+use Rattle.std.proofs.Common.{◌≡◌, ℕ, ◌<◌, cond, ltb, List, [], ◌∷◌, ◌++◌, length, ◌∙◌, arith}
 use Rattle.fixed_list.specs.declared.ArrayVec.{ArrayVec}
 use Rattle.fixed_list.specs.Items.{items_of}
 use Rattle.std.proofs.lemmas.List.{length-take-le}
@@ -9,5 +9,5 @@ pub length_items : {T : Type 0} {N : ℕ} (v : ArrayVec T N) → length (items_o
 length_items v = length-take-le v.len v.items (omega arith)
 
 -- a push where there is room
-pub pushed : {T : Type 0} (xs ys : List T) (x : T) (n : ℕ) (taken : Bool) → taken ≡ ltb (length xs) n → length xs < n → ys ≡ cond taken (xs ++ x ∷ []) xs → ys ≡ xs ++ x ∷ []
-pushed xs ys x n taken t h e = e ∙ cond-true _ _ _ (t ∙ lt-ltb _ _ h)
+pub pushed : {T : Type 0} (xs ys : List T) (x : T) (n : ℕ) → length xs < n → ys ≡ cond (ltb (length xs) n) (xs ++ x ∷ []) xs → ys ≡ xs ++ x ∷ []
+pushed xs ys x n h e = e ∙ cond-true _ _ _ (lt-ltb _ _ h)

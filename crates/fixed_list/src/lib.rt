@@ -4,17 +4,32 @@
 //! array; what stands in the slots after them is no item, and no call shows it.
 #![tactic(auto)]
 
-ghost use Rattle.std.specs.Prelude.{◌≡◌, ◌≤◌, length};
+ghost use Rattle.std.specs.Prelude.{◌≡◌, ◌≤◌, length, ⊤};
+
+use std::alloc::AllocError;
 
 mod methods;
 #[cfg(test)]
 mod tests;
 
 /// A list of at most `N` items: the first `len` of the slots.
-#[derive(Drop)]
+// The kit's list of this kind cannot be copied, as a rule's list of rows is, and wants a default of every item.
 pub struct ArrayVec<T, const N: usize> {
     items: [T; N],
     len: usize,
     ghost whole: { length items ≡ N },
     ghost within: { len ≤ N },
 }
+
+// By hand, since no derive copies a type with ghost fields over a type parameter.
+impl<T: Copy, const N: usize> Clone for ArrayVec<T, N> {
+    ghost is_clone = { λ v w. w ≡ v };
+
+    ghost is_infallible = { λ _. ⊤ };
+
+    fn clone(&self) -> Result<Self, AllocError> {
+        Ok(*self)
+    }
+}
+
+impl<T: Copy, const N: usize> Copy for ArrayVec<T, N> {}

@@ -1,4 +1,4 @@
-ghost use Rattle.std.specs.Prelude.{◌≡◌, ◌≤◌, [], ◌∷◌, ◌++◌, length, if◌then◌else◌, nat_lt};
+ghost use Rattle.std.specs.Prelude.{◌≡◌, ◌≤◌, [], ◌∷◌, ◌++◌, length, if◌then◌else◌, nat_lt, ◌==◌, Ok, Err};
 ghost use Rattle.fixed_list.specs.Items.{items_of};
 
 use crate::ArrayVec;
@@ -31,17 +31,24 @@ impl<T: Copy, const N: usize> ArrayVec<T, N> {
         &slots[0..self.len]
     }
 
-    /// Appends `x` and answers true; false, and nothing altered, if the list has `N` items.
-    pub fn push(&mut self, x: T) -> bool
-        ensures taken { result ≡ nat_lt (length (items_of self.old)) N }
-        ensures items { items_of self.new ≡ (if result then items_of self.old ++ x ∷ [] else items_of self.old) }
+    /// Whether the list has no item.
+    pub fn is_empty(&self) -> bool
+        ensures { result ≡ (length (items_of self.now) == 0) }
+    {
+        self.len == 0
+    }
+
+    /// Appends `x`. If the list has `N` items, `x` is handed back, and nothing is altered.
+    pub fn push(&mut self, x: T) -> Result<(), T>
+        ensures answer { result ≡ (if nat_lt (length (items_of self.old)) N then Ok tt else Err x) }
+        ensures items { items_of self.new ≡ (if nat_lt (length (items_of self.old)) N then items_of self.old ++ x ∷ [] else items_of self.old) }
     {
         if self.len < N {
             self.items[self.len] = x;
             self.len += 1;
-            true
+            Ok(())
         } else {
-            false
+            Err(x)
         }
     }
 }

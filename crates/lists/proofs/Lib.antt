@@ -1,4 +1,3 @@
-pub mod Truth
 pub mod Members
 pub mod Firsts
 pub mod Onces

@@ -1,13 +1,12 @@
 -- Words on lists: tests of every element and of some, membership, lists without repetition, lists that pair off.
-use Rattle.std.specs.Prelude.{ℕ, suc, Bool, true, false, cond, ◌&&◌, ◌||◌, List, [], ◌∷◌, ◌++◌}
+use Rattle.std.specs.Prelude.{ℕ, suc, Bool, cond, List, [], ◌∷◌, ◌++◌}
+use Rattle.std.specs.List.{list_all, list_any}
 
 abbrev pub every : {A : Type 0} → (A → Bool) → List A → Bool
-every p [] = true
-every p (x ∷ xs) = p x && every p xs
+every = list_all
 
 abbrev pub some : {A : Type 0} → (A → Bool) → List A → Bool
-some p [] = false
-some p (x ∷ xs) = p x || some p xs
+some = list_any
 
 -- where the first element stands that passes the test, or the length
 abbrev pub first_at : {A : Type 0} → (A → Bool) → List A → ℕ

@@ -1,5 +1,6 @@
 pub mod Kripke
 pub mod Rows
+pub mod Kinds
 pub mod Faults
 pub mod Format
 pub mod Rules

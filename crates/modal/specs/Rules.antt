@@ -1,5 +1,6 @@
 -- The rows that a rule holds, and what reading and writing promise of them.
-use Rattle.std.specs.Prelude.{◌≡◌, ℕ, List, take, Ok, Err, Result}
+use Rattle.std.specs.Prelude.{◌≡◌, ℕ, List, Ok, Err, Result}
+use Rattle.fixed_list.specs.Items.{items_of}
 use Rattle.modal.specs.Format.{parsed, written, wrote, overlaid}
 use Rattle.modal.specs.declared.row.Row.{Row}
 use Rattle.modal.specs.declared.row_list.RowList.{RowList}
@@ -8,7 +9,7 @@ use Rattle.modal.specs.declared.faults.ReadFault.{ReadFault}
 use Rattle.modal.specs.declared.faults.WriteFault.{WriteFault}
 
 abbrev pub listed : RowList → List Row
-listed l = take l.len l.rows
+listed l = items_of l.rows
 
 abbrev pub rows_of : Rule → List Row
 rows_of r = listed r.list

@@ -1,8 +1,23 @@
 // What was wrong with the bytes of a rule, and where; and with the buffer that a rule was to be written to.
 ghost use Rattle.std.specs.Prelude.{◌≡◌};
-ghost use Rattle.modal.specs.Faults.{read_refusal, read_start, write_refusal};
+ghost use Rattle.modal.specs.Faults.{Refusal, read_refusal, read_start, write_refusal};
 
+use crate::row_list::MAX_ROWS;
+use std::error::Error;
 use std::fmt;
+
+/// What a caller is told of a refusal: a number of its own and a detail.
+pub trait Fault: Error {
+    ghost refusal: { Self → Refusal };
+
+    /// The number of the refusal.
+    fn number(self) -> u8
+        ensures { result ≡ (refusal self).number };
+
+    /// The detail of the refusal.
+    fn detail(self) -> u64
+        ensures { result ≡ (refusal self).detail };
+}
 
 /// A row of the bytes, and the byte where it begins.
 #[derive(Clone, Copy, PartialEq, Eq, Debug)]
@@ -24,31 +39,6 @@ pub enum ReadFault {
 }
 
 impl ReadFault {
-    /// The number of the refusal.
-    pub fn number(self) -> u8
-        ensures { result ≡ (read_refusal self).number }
-    {
-        match self {
-            ReadFault::NoBytes => 1,
-            ReadFault::UnknownKind(_) => 2,
-            ReadFault::CutOff(_) => 3,
-            ReadFault::TooManyRows(_) => 4,
-            ReadFault::ChildNotEarlier(_) => 5,
-            ReadFault::LetterTooHigh(_) => 6,
-            ReadFault::TooDeep(_) => 7,
-        }
-    }
-
-    /// The detail of the refusal.
-    pub fn detail(self) -> u64
-        ensures { result ≡ (read_refusal self).detail }
-    {
-        match self {
-            ReadFault::TooManyRows(_) => 64,
-            _ => u64::from(self.start().row),
-        }
-    }
-
     /// The row at fault and the byte where it begins.
     pub fn start(self) -> RowStart
         ensures { result ≡ read_start self }
@@ -77,6 +67,29 @@ impl ReadFault {
     }
 }
 
+impl Fault for ReadFault {
+    ghost refusal = { read_refusal };
+
+    fn number(self) -> u8 {
+        match self {
+            ReadFault::NoBytes => 1,
+            ReadFault::UnknownKind(_) => 2,
+            ReadFault::CutOff(_) => 3,
+            ReadFault::TooManyRows(_) => 4,
+            ReadFault::ChildNotEarlier(_) => 5,
+            ReadFault::LetterTooHigh(_) => 6,
+            ReadFault::TooDeep(_) => 7,
+        }
+    }
+
+    fn detail(self) -> u64 {
+        match self {
+            ReadFault::TooManyRows(_) => MAX_ROWS as u64,
+            _ => u64::from(self.start().row),
+        }
+    }
+}
+
 impl fmt::Display for ReadFault {
     fn fmt<W: fmt::Write>(&self, f: &mut fmt::Formatter<W>) -> fmt::Result {
         let RowStart { row, byte } = self.start();
@@ -85,6 +98,8 @@ impl fmt::Display for ReadFault {
     }
 }
 
+impl Error for ReadFault {}
+
 /// Why a rule is not written.
 #[derive(Clone, Copy, PartialEq, Eq, Debug)]
 pub enum WriteFault {
@@ -92,20 +107,16 @@ pub enum WriteFault {
     TooShort(usize),
 }
 
-impl WriteFault {
-    /// The number of the refusal.
-    pub fn number(self) -> u8
-        ensures { result ≡ (write_refusal self).number }
-    {
+impl Fault for WriteFault {
+    ghost refusal = { write_refusal };
+
+    fn number(self) -> u8 {
         match self {
             WriteFault::TooShort(_) => 10,
         }
     }
 
-    /// The detail of the refusal.
-    pub fn detail(self) -> u64
-        ensures { result ≡ (write_refusal self).detail }
-    {
+    fn detail(self) -> u64 {
         match self {
             WriteFault::TooShort(needed) => needed as u64,
         }
@@ -122,3 +133,17 @@ impl fmt::Display for WriteFault {
         }
     }
 }
+
+impl Error for WriteFault {}
+
+/// A list with no row is no rule.
+#[derive(Clone, Copy, PartialEq, Eq, Debug)]
+pub struct NoRows;
+
+impl fmt::Display for NoRows {
+    fn fmt<W: fmt::Write>(&self, f: &mut fmt::Formatter<W>) -> fmt::Result {
+        f.write_str("there is no row")
+    }
+}
+
+impl Error for NoRows {}

@@ -6,6 +6,8 @@
 #![tactic(auto)]
 
 pub mod faults;
+mod kind;
+mod reader;
 pub mod row;
 pub mod row_list;
 pub mod rule;

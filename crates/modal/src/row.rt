@@ -1,13 +1,18 @@
 // One row of a rule: a formula over the rows before it, by their numbers.
-ghost use Rattle.std.specs.Prelude.{◌≡◌, ◌+◌, ◌≤◌, ◌++◌, length, take, drop};
+ghost use Rattle.std.specs.Prelude.{◌≡◌, length, MatchResult};
 ghost use Rattle.modal.specs.Rows.{children_earlier, letter_in_range};
-ghost use Rattle.modal.specs.Format.{body_length, bytes_of, row_of};
+ghost use Rattle.modal.specs.Format.{bytes_of};
+ghost use Rattle.modal.specs.Kinds.{kind_of};
+ghost use Rattle.modal.specs.Reading.{Front, Unread};
 
+use crate::faults::{ReadFault, RowStart};
+use crate::kind::Kind;
 use std::fmt;
 
 const LAST_LETTER: u8 = 14;
 
 /// A formula, or a connective over the rows with these numbers.
+// Numbers and no boxes: the bytes of a rule name earlier rows, and several rows may share one.
 #[derive(Clone, Copy, PartialEq, Eq, Debug)]
 pub enum Row {
     False,
@@ -36,19 +41,36 @@ impl fmt::Display for Row {
 }
 
 impl Row {
-    // The row of a kind up to 7, with the bytes of its body.
-    pub(crate) fn of(kind: u8, c: u8, e: u8) -> Row
-        ensures { result ≡ row_of kind c e }
+    fn kind(self) -> Kind
+        ensures { result ≡ kind_of self }
     {
-        match kind {
-            0 => Row::False,
-            1 => Row::True,
-            2 => Row::Letter(c),
-            3 => Row::Not(c),
-            4 => Row::And(c, e),
-            5 => Row::Or(c, e),
-            6 => Row::Box(c),
-            _ => Row::Diamond(c),
+        match self {
+            Row::False => Kind::False,
+            Row::True => Kind::True,
+            Row::Letter(_) => Kind::Letter,
+            Row::Not(_) => Kind::Not,
+            Row::And(_, _) => Kind::And,
+            Row::Or(_, _) => Kind::Or,
+            Row::Box(_) => Kind::Box,
+            Row::Diamond(_) => Kind::Diamond,
+        }
+    }
+
+    // The row that begins at `start` with the byte of its kind, `first`, and the bytes after that, and the bytes that are left.
+    pub(crate) fn split(start: RowStart, first: u8, bytes: &[u8]) -> Result<(Row, &[u8]), ReadFault>
+        ensures { MatchResult result (λ found. Front first bytes.now found.0 found.1.now) (λ fault. Unread first bytes.now start fault) }
+    {
+        let kind = Kind::try_from(first).map_err(|_| ReadFault::UnknownKind(start))?;
+        match (kind, bytes) {
+            (Kind::False, rest) => Ok((Row::False, rest)),
+            (Kind::True, rest) => Ok((Row::True, rest)),
+            (Kind::Letter, [a, rest @ ..]) => Ok((Row::Letter(*a), rest)),
+            (Kind::Not, [c, rest @ ..]) => Ok((Row::Not(*c), rest)),
+            (Kind::And, [c, e, rest @ ..]) => Ok((Row::And(*c, *e), rest)),
+            (Kind::Or, [c, e, rest @ ..]) => Ok((Row::Or(*c, *e), rest)),
+            (Kind::Box, [c, rest @ ..]) => Ok((Row::Box(*c), rest)),
+            (Kind::Diamond, [c, rest @ ..]) => Ok((Row::Diamond(*c), rest)),
+            _ => Err(ReadFault::CutOff(start)),
         }
     }
 
@@ -74,52 +96,23 @@ impl Row {
 
     // The number of its bytes.
     pub(crate) fn size(self) -> usize
-        ensures value { result ≡ length (bytes_of self) }
-        ensures bound { result ≤ 3 }
+        ensures { result ≡ length (bytes_of self) }
     {
+        1 + self.kind().body_len()
+    }
+
+    // Writes its bytes to a buffer of their number.
+    pub(crate) fn put(self, out: &mut [u8])
+        requires { length out.old ≡ length (bytes_of self) }
+        ensures { out.new ≡ bytes_of self }
+    {
+        let kind = u8::from(self.kind());
         match self {
-            Row::False | Row::True => 1,
-            Row::And(_, _) | Row::Or(_, _) => 3,
-            _ => 2,
+            Row::False | Row::True => out.copy_from_slice(&[kind]),
+            Row::Letter(c) | Row::Not(c) | Row::Box(c) | Row::Diamond(c) => {
+                out.copy_from_slice(&[kind, c]);
+            }
+            Row::And(c, e) | Row::Or(c, e) => out.copy_from_slice(&[kind, c, e]),
         }
     }
-
-    // Writes its bytes at `at`, and says where they end.
-    pub(crate) fn put(self, out: &mut [u8], at: usize) -> usize
-        requires { at + length (bytes_of self) ≤ length out.old }
-        ensures value { result ≡ at + length (bytes_of self) }
-        ensures after { out.new ≡ take at out.old ++ (bytes_of self ++ drop (at + length (bytes_of self)) out.old) }
-    {
-        match self {
-            Row::False => put_bytes(out, at, &[0]),
-            Row::True => put_bytes(out, at, &[1]),
-            Row::Letter(a) => put_bytes(out, at, &[2, a]),
-            Row::Not(c) => put_bytes(out, at, &[3, c]),
-            Row::And(c, e) => put_bytes(out, at, &[4, c, e]),
-            Row::Or(c, e) => put_bytes(out, at, &[5, c, e]),
-            Row::Box(c) => put_bytes(out, at, &[6, c]),
-            Row::Diamond(c) => put_bytes(out, at, &[7, c]),
-        }
-    }
-}
-
-// The number of bytes after the kind.
-pub(crate) fn body_len(kind: u8) -> usize
-    ensures { result ≡ body_length kind }
-{
-    match kind {
-        0 | 1 => 0,
-        4 | 5 => 2,
-        _ => 1,
-    }
-}
-
-fn put_bytes(out: &mut [u8], at: usize, bytes: &[u8]) -> usize
-    requires { at + length bytes.now ≤ length out.old }
-    ensures value { result ≡ at + length bytes.now }
-    ensures after { out.new ≡ take at out.old ++ (bytes.now ++ drop (at + length bytes.now) out.old) }
-{
-    let end = at + bytes.len();
-    out[at..end].copy_from_slice(bytes);
-    end
 }

@@ -1,8 +1,10 @@
 -- A session with one rule more, from what taking in the rule appends.
+use Rattle.std.proofs.lemmas.Grind.{common_steps}
+use Rattle.std.proofs.lemmas.Bool.Decides.{nat_tests}
 use Rattle.std.proofs.Common.{◌≡◌, ℕ, suc, ◌+◌, ◌-◌, ◌<◌, Bool, true, ◌⊎◌, List, [], ◌∷◌, ◌++◌, map, length, get_or, sym, refl, ap, ◌∙◌, subst, ap₂, inl, inr, append_assoc, add-zero, arith}
 use mathlib.Core.Path.{fun_ext}
 use Rattle.std.proofs.lemmas.List.{get_or_past, get_or_append_left, get_or-append_right, get_or_push, map-append}
-use Rattle.std.proofs.lemmas.Bool.{eq-eqb, ne_eqb, cases_lt, cond-true, cond-false}
+use Rattle.std.proofs.lemmas.Bool.{eq-eqb, cases_lt, cond-true}
 use Rattle.clausal.proofs.Kept.{lit_kept, rule_kept}
 use Rattle.clausal.proofs.Small.{Small, rule_small}
 use Rattle.clausal.proofs.Words.{from_list}
@@ -57,7 +59,7 @@ definitions_from : (xss : List (List Literal)) → map definition (map clause_fr
 definitions_from [] = refl
 definitions_from (xs ∷ xss) = ap (λ (es : List Entry). as_definition xs ∷ es) (definitions_from xss)
 
-module _ (st : State) (rows : List Row) (after : State) (clauses : ℕ → List Clause) (before : Naming st) (now : Naming after) (pushed : after.rules ≡ st.rules ++ rows ∷ []) (g : TakenIn (length st.rules) rows st.names after.names st.boxes after.boxes st.diamonds after.diamonds clauses) (written : (l : ℕ) → after.entries l ≡ st.entries l ++ map definition (clauses l)) where
+module _ (st : State) (rows : List Row) (after : State) (clauses : ℕ → List Clause) (before : Naming st) (now : Naming after) (pushed : after.rules ≡ st.rules ++ rows ∷ []) (g : TakenIn (length st.rules) rows (λ l. record { names = st.names l; boxes = st.boxes l; diamonds = st.diamonds l }) (λ l. record { names = after.names l; boxes = after.boxes l; diamonds = after.diamonds l }) clauses) (written : (l : ℕ) → after.entries l ≡ st.entries l ++ map definition (clauses l)) where
   abbrev r : ℕ
   r = length st.rules
 
@@ -65,8 +67,7 @@ module _ (st : State) (rows : List Row) (after : State) (clauses : ℕ → List 
   ours l = names_for r rows l
 
   mine_own : (l : ℕ) {x : Name} → Mine r rows l x → Own r x
-  mine_own l (inl (_, _, _, _, e)) = subst (Own r) (sym e) refl
-  mine_own l (inr (_, e)) = subst (Own r) (sym e) refl
+  mine_own v1 v2 = grind (arith, common_steps, nat_tests)
 
   slot : (l i : ℕ) → (get_or (st.names l ++ ours l) i free ≡ get_or (st.names l) i free) ⊎ ((get_or (st.names l) i free ≡ free) × Own r (get_or (st.names l ++ ours l) i free))
   slot l i = elim (cases_lt i (length (st.names l))) [
@@ -78,7 +79,7 @@ module _ (st : State) (rows : List Row) (after : State) (clauses : ℕ → List 
       own j = elim (cases_lt j (length (ours l))) [ inl k ↦ mine_own l (own_in r rows l (get_or_in (ours l) j free k)) | inr k ↦ subst (Own r) (sym (get_or_past (ours l) j free k)) tt ]
 
   extends : Extends st rows after
-  extends = record { rules = pushed; slots = λ l i. subst (λ xs. (get_or xs i free ≡ get_or (st.names l) i free) ⊎ ((get_or (st.names l) i free ≡ free) × Own r (get_or xs i free))) (sym (g.names l)) (slot l i) }
+  extends = record { rules = pushed; slots = λ l i. subst (λ xs. (get_or xs i free ≡ get_or (st.names l) i free) ⊎ ((get_or (st.names l) i free ≡ free) × Own r (get_or xs i free))) (sym (g l).names) (slot l i) }
 
   old_rule : (q : ℕ) → q < r → rule_at after q ≡ rule_at st q
   old_rule q h = rule_kept st rows after extends q h
@@ -104,26 +105,24 @@ module _ (st : State) (rows : List Row) (after : State) (clauses : ℕ → List 
   old_proper l i = let (j, e) = in_get_or free i in subst (Proper st l) e (before.proper l j)
 
   modals_new : (under : Shape → List ℕ) (l : ℕ) → modals_at under after l ≡ modals_at under st l ++ gather (modal_own under (after.names (suc l)) r rows) (16 + length (st.names l)) (ours l)
-  modals_new under l = ap (gather (modal_name under after l) 16) (g.names l) ∙ (gather_append (modal_name under after l) 16 (st.names l) (ours l) ∙ ap₂ ◌++◌ (gather_in_same _ _ 16 (st.names l) (λ m x i. modal_old under l m x (old_proper l i))) (gather_in_same _ _ (16 + length (st.names l)) (ours l) (λ m x i. modal_new under l m x (own_in r rows l i))))
+  modals_new under l = ap (gather (modal_name under after l) 16) (g l).names ∙ (gather_append (modal_name under after l) 16 (st.names l) (ours l) ∙ ap₂ ◌++◌ (gather_in_same _ _ 16 (st.names l) (λ m x i. modal_old under l m x (old_proper l i))) (gather_in_same _ _ (16 + length (st.names l)) (ours l) (λ m x i. modal_new under l m x (own_in r rows l i))))
 
   defines_old : (l m : ℕ) (x : Name) → Proper st l x → defines_name after l r m x ≡ []
-  defines_old l m free p = refl
-  defines_old l m (place q k s) p = cond-false _ _ _ (ne_eqb r q (λ e. omega (arith, p.0)))
-  defines_old l m (handle q) p = cond-false _ _ _ (ne_eqb r q (λ e. omega (arith, p.0)))
+  defines_old v1 v2 v3 v4 = grind (arith, common_steps, nat_tests)
 
   defines_new : (l m : ℕ) (x : Name) → Mine r rows l x → defines_name after l r m x ≡ defines_own (after.names l) r rows m x
   defines_new l m x (inl (k, s, _, _, e)) = subst (λ z. defines_name after l r m z ≡ defines_own (after.names l) r rows m z) (sym e) (cond-true _ _ _ (eq-eqb r r refl) ∙ ap₂ (λ (f : ℕ → Literal) (row : Row). defines m f (shape row s)) (fun_ext (lit_new l s)) (ap (λ rs. get_or rs k False) new_rule))
   defines_new l m x (inr (z, e)) = subst (λ y. defines_name after l r m y ≡ defines_own (after.names l) r rows m y) (sym e) (cond-true _ _ _ (eq-eqb r r refl) ∙ ap (λ (y : Literal). (negation m ∷ (y ∷ [])) ∷ []) (lit_new 0 true (length (rule_at after r) - 1) ∙ (ap (λ rs. lit_in (after.names 0) r rows true (length rs - 1)) new_rule ∙ ap (λ j. lit_in (after.names j) r rows true (length rows - 1)) (sym z))))
 
   rule_defines : (l : ℕ) → defines_rule after l r ≡ gather (defines_own (after.names l) r rows) (16 + length (st.names l)) (ours l)
-  rule_defines l = ap (gather (defines_name after l r) 16) (g.names l) ∙ (gather_append (defines_name after l r) 16 (st.names l) (ours l) ∙ ap₂ ◌++◌ (gather_in_same _ (λ m x. []) 16 (st.names l) (λ m x i. defines_old l m x (old_proper l i)) ∙ gather_nothing 16 (st.names l)) (gather_in_same _ _ (16 + length (st.names l)) (ours l) (λ m x i. defines_new l m x (own_in r rows l i))))
+  rule_defines l = ap (gather (defines_name after l r) 16) (g l).names ∙ (gather_append (defines_name after l r) 16 (st.names l) (ours l) ∙ ap₂ ◌++◌ (gather_in_same _ (λ m x. []) 16 (st.names l) (λ m x i. defines_old l m x (old_proper l i)) ∙ gather_nothing 16 (st.names l)) (gather_in_same _ _ (16 + length (st.names l)) (ours l) (λ m x i. defines_new l m x (own_in r rows l i))))
 
   -- so what is appended is exactly the clausal form of the rule
   pub adds : ((l : ℕ) → st.boxes l ≡ modals_at boxed st l) → ((l : ℕ) → st.diamonds l ≡ modals_at diamonded st l) → Adds st rows after
   adds bs ds = record {
     extends = extends;
     naming = now;
-    boxes = λ l. g.boxes l ∙ (ap (λ t. t ++ gather (modal_own boxed (after.names (suc l)) r rows) (16 + length (st.names l)) (ours l)) (bs l) ∙ sym (modals_new boxed l));
-    diamonds = λ l. g.diamonds l ∙ (ap (λ t. t ++ gather (modal_own diamonded (after.names (suc l)) r rows) (16 + length (st.names l)) (ours l)) (ds l) ∙ sym (modals_new diamonded l));
-    entries = λ l. (map as_definition (defines_rule after l r), written l ∙ ap (λ (t : List Entry). st.entries l ++ t) (ap (map definition) (g.clauses l ∙ map_gather clause_from (defines_own (after.names l) r rows) (16 + length (st.names l)) (ours l)) ∙ definitions_from _ ∙ ap (map as_definition) (sym (rule_defines l))), all_definitions (defines_rule after l r), writes_all (defines_rule after l r) (λ xs i. rule_small after now l r i));
+    boxes = λ l. (g l).boxes ∙ (ap (λ t. t ++ gather (modal_own boxed (after.names (suc l)) r rows) (16 + length (st.names l)) (ours l)) (bs l) ∙ sym (modals_new boxed l));
+    diamonds = λ l. (g l).diamonds ∙ (ap (λ t. t ++ gather (modal_own diamonded (after.names (suc l)) r rows) (16 + length (st.names l)) (ours l)) (ds l) ∙ sym (modals_new diamonded l));
+    entries = λ l. (map as_definition (defines_rule after l r), written l ∙ ap (λ (t : List Entry). st.entries l ++ t) (ap (map definition) ((g l).clauses ∙ map_gather clause_from (defines_own (after.names l) r rows) (16 + length (st.names l)) (ours l)) ∙ definitions_from _ ∙ ap (map as_definition) (sym (rule_defines l))), all_definitions (defines_rule after l r), writes_all (defines_rule after l r) (λ xs i. rule_small after now l r i));
   }

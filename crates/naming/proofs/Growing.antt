@@ -1,7 +1,7 @@
 -- A level's names growing by those of a rule, number after number.
 use Rattle.std.proofs.Common.{◌≡◌, ℕ, zero, suc, ◌+◌, ◌-◌, ◌*◌, ◌<◌, ◌≤◌, true, false, cond, List, [], ◌∷◌, ◌++◌, length, sym, refl, ap, ◌∙◌, subst, ap₂, append_assoc, arith, length-append}
 use Rattle.std.proofs.lemmas.List.{append-nil}
-use Rattle.std.proofs.lemmas.Bool.{eq-eqb, ne_eqb}
+use Rattle.std.proofs.lemmas.Bool.{eq-eqb}
 use Rattle.modal.specs.declared.row.Row.{Row}
 use Rattle.clausal.specs.declared.names.Name.{Name}
 use Rattle.clausal.specs.declared.names.Name.TheVariants.{Place as place, Handle as handle}
@@ -40,11 +40,6 @@ module _ (r : ℕ) (rows : List Row) (l i : ℕ) (o a : List Name) (e : a ≡ o 
   named_handle b z q p =
       let w : places_named r (takers rows l i) ++ handle r ∷ [] ≡ names_for r rows l = ap₂ (λ n c. places_named r (takers rows l n) ++ cond c (handle r ∷ []) []) z (sym (eq-eqb l 0 q)) in
       p ∙ ap (λ z. z ++ handle r ∷ []) e ∙ append_assoc o (places_named r (takers rows l i)) (handle r ∷ []) ∙ ap (λ z. o ++ z) w
-
-  pub named_plain : i ≡ 128 → (l ≡ 0 → ⊥) → a ≡ o ++ names_for r rows l
-  named_plain z q =
-      let w : places_named r (takers rows l i) ≡ names_for r rows l = sym (append-nil _) ∙ ap₂ (λ n c. places_named r (takers rows l n) ++ cond c (handle r ∷ []) []) z (sym (ne_eqb l 0 q)) in
-      e ∙ ap (λ z. o ++ z) w
 
 pub takers_room : (rows : List Row) (l i : ℕ) → true ≡ takes rows (l * 128 + i) → i < 128 → length (takers rows l i) < length (takers rows l 128)
 takers_room rows l i t h =

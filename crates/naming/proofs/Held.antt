@@ -1,12 +1,14 @@
 -- What a table holds, from its parts: it is a naming of its rules, and stays one when a rule is taken in.
-use Rattle.std.proofs.Common.{◌≡◌, ℕ, zero, suc, ◌+◌, ◌<◌, ◌≤◌, Bool, true, false, ltb, List, [], ◌∷◌, ◌++◌, map, length, get_or, Ok, Err, sym, refl, ap, ◌∙◌, subst, ap₂, subst₂, inl, inr, zero-add, arith, length-append}
+use Rattle.std.proofs.lemmas.Grind.{common_steps}
+use Rattle.std.proofs.lemmas.Bool.Decides.{nat_tests}
+use Rattle.std.proofs.Common.{◌≡◌, ℕ, zero, suc, ◌+◌, ◌<◌, ◌≤◌, Bool, true, false, ltb, List, [], ◌∷◌, ◌++◌, map, length, Ok, Err, Some, None, MatchOption, position, cond, sym, refl, ap, ◌∙◌, subst, ap₂, inl, inr, zero-add, arith, length-append}
 use mathlib.Core.Path.{fun_ext}
-use Rattle.std.specs.List.{range_with_len}
-use Rattle.std.proofs.lemmas.List.FromFn.{length-range_with_len}
-use Rattle.std.proofs.lemmas.List.{get_or-map, length-map, map-append}
-use Rattle.std.proofs.lemmas.Bool.{and_from, both_ways, eq-eqb, cases_lt, cond-true, cond-false, le-leb, lt-leb, lt-ltb, le-ltb, ltb-false}
-use Rattle.lists.specs.Lists.{every, first_at}
-use Rattle.lists.proofs.Firsts.{first_at_lem, first_past, some_no}
+use Rattle.std.specs.List.{range_with_len, find}
+use Rattle.std.specs.Option.{option_map}
+use Rattle.std.proofs.lemmas.List.{length-map}
+use Rattle.std.proofs.lemmas.Bool.{and_from, eq-eqb, cases_lt, cond-true, cond-false, le-leb, lt-leb, lt-ltb, le-ltb, ltb-false, both_ways}
+use Rattle.lists.specs.Lists.{every, some, first_at}
+use Rattle.lists.proofs.Firsts.{first_passes}
 use Rattle.lists.proofs.Members.{every_append, some_from}
 use Rattle.modal.specs.Rows.{lawful}
 use Rattle.modal.specs.Rules.{listed}
@@ -27,30 +29,31 @@ use Rattle.clausal.specs.declared.modal_clauses.ModalClause.{ModalClause}
 use Rattle.clausal.specs.declared.names.Name.{Name}
 use Rattle.clausal.specs.declared.names.Name.TheVariants.{Free as free, Place as place, Handle as handle}
 use Rattle.clausal.specs.declared.shapes.Shape.{Shape}
-use Rattle.clausal.proofs.Modals.{modals_length, boxes_orderly, diamonds_orderly}
+use Rattle.clausal.proofs.Modals.{boxed_one, diamonded_one, modals_length, boxes_orderly, diamonds_orderly}
 use Rattle.clausal.proofs.Reading.{handle_known}
-use Rattle.clausal.proofs.Rows.{lawful_rows}
-use Rattle.naming.specs.Levels.{level_items, held_rules, named_state}
+use Rattle.naming.specs.Levels.{lists_at, names_at, boxes_at, diamonds_at, held_rules, named_state}
 use Rattle.naming.specs.Names.{names_for, names_from}
-use Rattle.naming.specs.Order.{crowded_by}
+use Rattle.naming.specs.Order.{crowds}
 use Rattle.naming.specs.TakenIn.{TakenIn}
-use Rattle.naming.specs.Tables.{definition}
+use Rattle.naming.specs.Tables.{definition, rules_in, HandleIs}
 use Rattle.naming.proofs.Adding.{adds}
-use Rattle.naming.proofs.Named.{expect_push, expect_length, in_order_naming, own_beyond, own_length}
-use Rattle.naming.proofs.Ordered.{in_counting}
-use Rattle.naming.proofs.Taking.{past}
+use Rattle.naming.proofs.Named.{expect_push, expect_length, in_order_naming}
+use Rattle.naming.proofs.Ordered.{level_found, no_level, no_first}
+use Rattle.naming.proofs.Lookups.{position_first}
+use Rattle.naming.specs.declared.level_table.LevelTable.{LevelTable}
+use Rattle.naming.specs.declared.table.Table.{Table}
 
 -- the session of a table's parts and the entries of an oracle
-abbrev pub parts_view : ArrayVec RowList 16 → List (ArrayVec Name 48) → List (ArrayVec ModalClause 48) → List (ArrayVec ModalClause 48) → (ℕ → List Entry) → State
-parts_view rs ns bs ds es = record { rules = held_rules rs; names = level_items ns; boxes = level_items bs; diamonds = level_items ds; entries = es }
+abbrev pub parts_view : ArrayVec RowList 16 → List LevelTable → (ℕ → List Entry) → State
+parts_view rs ts es = record { rules = held_rules rs; names = names_at ts; boxes = boxes_at ts; diamonds = diamonds_at ts; entries = es }
 
 items_few : {T : Type 0} {N : ℕ} (v : ArrayVec T N) → length (items_of v) ≤ N
 items_few v = omega (arith, length_items v)
 
-pub level_few : {T : Type 0} {N : ℕ} (vs : List (ArrayVec T N)) (l : ℕ) → length (level_items vs l) ≤ N
-level_few [] l = omega arith
-level_few (v ∷ vs) zero = items_few v
-level_few (v ∷ vs) (suc l) = level_few vs l
+pub names_few : (ts : List LevelTable) (l : ℕ) → length (names_at ts l) ≤ 48
+names_few [] l = omega arith
+names_few (t ∷ ts) zero = items_few t.names
+names_few (t ∷ ts) (suc l) = names_few ts l
 
 rules_few : (rs : ArrayVec RowList 16) → length (held_rules rs) ≤ 16
 rules_few rs = omega (arith, length-map (items_of rs) listed, items_few rs)
@@ -94,102 +97,90 @@ module _ (rules : List (List Row)) (rows : List Row) where
   unfolding add_answer
   answer_rules h = sym (cond-true _ _ _ (le-leb 16 (length rules) h))
 
-  pub answer_level : length rules < 16 → (n : ℕ) → n ≡ crowded (rules ++ rows ∷ []) → n < 8 → Err (TooManyNames n) ≡ add_answer rules rows
+-- a table's parts
+module _ (rs : ArrayVec RowList 16) (ts : List LevelTable) (ok : every lawful (held_rules rs) ≡ true) (named : (l : ℕ) → names_at ts l ≡ names_from 0 (held_rules rs) l) where
+  pub parts_naming : (es : ℕ → List Entry) → Naming (parts_view rs ts es)
+  parts_naming es = in_order_naming (parts_view rs ts es) (rules_few rs) ok (names_few ts) named
+
+  named_naming : Naming (named_state (held_rules rs) (names_at ts))
+  named_naming = in_order_naming (named_state (held_rules rs) (names_at ts)) (rules_few rs) ok (names_few ts) named
+
+-- a table, and a rule
+module _ (t : Table) (rows : List Row) (good : lawful rows ≡ true) where
+  total : (l : ℕ) → length (names_at t.levels l) + count_of_names rows l ≡ names_of (held_rules t.rules ++ rows ∷ []) l
+  total l = ap (λ n. n + count_of_names rows l) (ap length (t.named l) ∙ expect_length 0 (held_rules t.rules) t.rules_lawful l) ∙ sym (names_push (held_rules t.rules) rows l)
+
+  crowd : first_at (crowds t.levels rows) (range_with_len 0 8) ≡ crowded (held_rules t.rules ++ rows ∷ [])
+  unfolding crowded crowds
+  crowd = ap (λ (p : ℕ → Bool). first_at p (range_with_len 0 8)) (fun_ext (λ l. ap (ltb 48) (total l)))
+
+  pub answer_level : length (held_rules t.rules) < 16 → (l : ℕ) → Some l ≡ find (crowds t.levels rows) (range_with_len 0 8) → Err (TooManyNames l) ≡ add_answer (held_rules t.rules) rows
   unfolding add_answer
-  answer_level h n e k = ap (λ (m : ℕ). Err (TooManyNames m)) e ∙ sym (cond-false _ _ _ (lt-leb 16 (length rules) h) ∙ cond-true _ _ _ (ap (λ m. ltb m 8) (sym e) ∙ lt-ltb n 8 k))
+  answer_level h l e =
+      let (q, k) = level_found (crowds t.levels rows) l e in
+      let n : l ≡ crowded (held_rules t.rules ++ rows ∷ []) = q ∙ crowd in
+      ap (λ (m : ℕ). Err (TooManyNames m)) n ∙ sym (cond-false _ _ _ (lt-leb 16 (length (held_rules t.rules)) h) ∙ cond-true _ _ _ (lt-ltb _ 8 (subst (λ m. m < 8) n k)))
 
-  pub answer_added : length rules < 16 → (n : ℕ) → n ≡ crowded (rules ++ rows ∷ []) → 8 ≤ n → (k : ℕ) → k ≡ length rules → Ok k ≡ add_answer rules rows
+  pub answer_added : length (held_rules t.rules) < 16 → None ≡ find (crowds t.levels rows) (range_with_len 0 8) → (k : ℕ) → k ≡ length (held_rules t.rules) → Ok k ≡ add_answer (held_rules t.rules) rows
   unfolding add_answer
-  answer_added h n e k j q = ap (λ (m : ℕ). Ok m) q ∙ sym (cond-false _ _ _ (lt-leb 16 (length rules) h) ∙ cond-false _ _ _ (ap (λ m. ltb m 8) (sym e) ∙ le-ltb n 8 k))
+  answer_added h e k q =
+      let n : crowded (held_rules t.rules ++ rows ∷ []) ≡ 8 = sym crowd ∙ no_first (crowds t.levels rows) e in
+      ap (λ (m : ℕ). Ok m) q ∙ sym (cond-false _ _ _ (lt-leb 16 (length (held_rules t.rules)) h) ∙ cond-false _ _ _ (le-ltb (crowded (held_rules t.rules ++ rows ∷ [])) 8 (omega arith)))
 
--- a table's parts, and a rule
-module _ (rs : ArrayVec RowList 16) (ns : List (ArrayVec Name 48)) (bs ds : List (ArrayVec ModalClause 48)) (ok : every lawful (held_rules rs) ≡ true) (named : (l : ℕ) → level_items ns l ≡ names_from 0 (held_rules rs) l) where
-  pub parts_naming : (es : ℕ → List Entry) → Naming (parts_view rs ns bs ds es)
-  parts_naming es = in_order_naming (parts_view rs ns bs ds es) (rules_few rs) ok (level_few ns) named
+  pub rooms : None ≡ find (crowds t.levels rows) (range_with_len 0 8) → (l : ℕ) → l < 8 → length (names_at t.levels l) + count_of_names rows l ≤ 48
+  unfolding crowds
+  rooms e l h = ltb-false 48 _ (no_level (crowds t.levels rows) e l h)
 
-  pub given_few : (under : Shape → List ℕ) → ((z : Shape) → length (under z) ≤ 1) → (ms : List (ArrayVec ModalClause 48)) → ((l : ℕ) → level_items ms l ≡ modals_at under (named_state (held_rules rs) (level_items ns)) l) → (l : ℕ) → length (level_items ms l) ≤ length (level_items ns l)
-  given_few under u ms given l = subst (λ (xs : List ModalClause). length xs ≤ length (level_items ns l)) (sym (given l)) (modals_few under u (named_state (held_rules rs) (level_items ns)) l)
+  -- the rule is taken in
+  module _ (rs' : ArrayVec RowList 16) (ts' : List LevelTable) (given : ℕ → List Clause) (pushed : held_rules rs' ≡ held_rules t.rules ++ rows ∷ []) (g : TakenIn (length (held_rules t.rules)) rows (lists_at t.levels) (lists_at ts') given) where
+    pub lawful_then : every lawful (held_rules rs') ≡ true
+    lawful_then = subst (λ (zs : List (List Row)). every lawful zs ≡ true) (sym pushed) (every_append lawful (held_rules t.rules) (rows ∷ []) t.rules_lawful (and_from (lawful rows) true good refl))
 
-  module _ (rows : List Row) (good : lawful rows ≡ true) where
-    module _ (held : List ℕ) (h : (l : ℕ) → get_or held l 0 ≡ length (level_items ns l)) where
-      total : (l : ℕ) → get_or held l 0 + count_of_names rows l ≡ names_of (held_rules rs ++ rows ∷ []) l
-      total l = ap (λ n. n + count_of_names rows l) (h l ∙ ap length (named l) ∙ expect_length 0 (held_rules rs) ok l) ∙ sym (names_push (held_rules rs) rows l)
+    pub named_then : (l : ℕ) → names_at ts' l ≡ names_from 0 (held_rules rs') l
+    named_then l = (g l).names ∙ ap₂ (λ (xs : List Name) (k : ℕ). xs ++ names_for k rows l) (t.named l) (sym (zero-add (length (held_rules t.rules)))) ∙ sym (ap (λ (zs : List (List Row)). names_from 0 zs l) pushed ∙ expect_push 0 (held_rules t.rules) rows l)
 
-      pub crowd : crowded_by held rows ≡ crowded (held_rules rs ++ rows ∷ [])
-      unfolding crowded
-      crowd = ap (λ (p : ℕ → Bool). first_at p (range_with_len 0 8)) (fun_ext (λ l. ap (ltb 48) (total l)))
+    pub adds_then : (es : ℕ → List Entry) → Adds (parts_view t.rules t.levels es) rows (parts_view rs' ts' (λ l. es l ++ map definition (given l)))
+    adds_then es = adds (parts_view t.rules t.levels es) rows (parts_view rs' ts' (λ l. es l ++ map definition (given l))) given (parts_naming t.rules t.levels t.rules_lawful t.named es) (parts_naming rs' ts' lawful_then named_then (λ l. es l ++ map definition (given l))) pushed g (λ l. refl)
+        (λ l. t.boxes_given l ∙ remodal boxed (held_rules t.rules) (names_at t.levels) (λ _. []) (λ _. []) (boxes_at t.levels) (diamonds_at t.levels) (λ _. []) es l 16 (names_at t.levels l))
+        (λ l. t.diamonds_given l ∙ remodal diamonded (held_rules t.rules) (names_at t.levels) (λ _. []) (λ _. []) (boxes_at t.levels) (diamonds_at t.levels) (λ _. []) es l 16 (names_at t.levels l))
 
-      pub held_few : (l : ℕ) → get_or held l 0 ≤ 48
-      held_few l = subst (λ n. n ≤ 48) (sym (h l)) (level_few ns l)
+    pub boxes_then : (l : ℕ) → boxes_at ts' l ≡ modals_at boxed (named_state (held_rules rs') (names_at ts')) l
+    boxes_then l = (adds_then (λ _. [])).boxes l ∙ remodal boxed (held_rules rs') (names_at ts') (boxes_at ts') (diamonds_at ts') (λ _. []) (λ _. []) (λ m. map definition (given m)) (λ _. []) l 16 (names_at ts' l)
 
-      pub rooms : length ns ≡ 8 → (n : ℕ) → n ≡ crowded_by held rows → 8 ≤ n → (l : ℕ) → length (level_items ns l) + count_of_names rows l ≤ 48
-      rooms eight n e k l = elim (cases_lt l 8) [
-        | inl c ↦ subst (λ m. m + count_of_names rows l ≤ 48) (h l) (ltb-false 48 _ (first_past (λ m. ltb 48 (get_or held m 0 + count_of_names rows m)) (in_counting 0 8 l (omega arith) (omega arith)) (long (crowded_by held rows) e)))
-        | inr c ↦ none_there (ap length (past items_of ns l eight c)) (sym (own_length 0 rows (lawful_rows rows good) l) ∙ ap length (own_beyond 0 rows (lawful_rows rows good) l c))
-      ]
-        where
-          long : (m : ℕ) → n ≡ m → length (range_with_len 0 8) ≤ m
-          long m q = subst (λ j. j ≤ m) (sym (length-range_with_len 0 8)) (subst (λ j. 8 ≤ j) q k)
-
-          none_there : {a b : ℕ} → a ≡ 0 → b ≡ 0 → a + b ≤ 48
-          none_there p q = omega arith
-
-    -- the rule is taken in
-    module _ (given : (l : ℕ) → level_items bs l ≡ modals_at boxed (named_state (held_rules rs) (level_items ns)) l) (given' : (l : ℕ) → level_items ds l ≡ modals_at diamonded (named_state (held_rules rs) (level_items ns)) l) (rs' : ArrayVec RowList 16) (ns' : List (ArrayVec Name 48)) (bs' ds' : List (ArrayVec ModalClause 48)) (clauses : ℕ → List Clause) (pushed : held_rules rs' ≡ held_rules rs ++ rows ∷ []) (t : TakenIn (length (held_rules rs)) rows (level_items ns) (level_items ns') (level_items bs) (level_items bs') (level_items ds) (level_items ds') clauses) where
-      pub lawful_then : every lawful (held_rules rs') ≡ true
-      lawful_then = subst (λ (zs : List (List Row)). every lawful zs ≡ true) (sym pushed) (every_append lawful (held_rules rs) (rows ∷ []) ok (and_from (lawful rows) true good refl))
-
-      pub named_then : (l : ℕ) → level_items ns' l ≡ names_from 0 (held_rules rs') l
-      named_then l = t.names l ∙ ap₂ (λ (xs : List Name) (k : ℕ). xs ++ names_for k rows l) (named l) (sym (zero-add (length (held_rules rs)))) ∙ sym (ap (λ (zs : List (List Row)). names_from 0 zs l) pushed ∙ expect_push 0 (held_rules rs) rows l)
-
-      pub adds_then : (es : ℕ → List Entry) → Adds (parts_view rs ns bs ds es) rows (parts_view rs' ns' bs' ds' (λ l. es l ++ map definition (clauses l)))
-      adds_then es = adds (parts_view rs ns bs ds es) rows (parts_view rs' ns' bs' ds' (λ l. es l ++ map definition (clauses l))) clauses (parts_naming es) (in_order_naming (parts_view rs' ns' bs' ds' (λ l. es l ++ map definition (clauses l))) (rules_few rs') lawful_then (level_few ns') named_then) pushed t (λ l. refl)
-          (λ l. given l ∙ remodal boxed (held_rules rs) (level_items ns) (λ _. []) (λ _. []) (level_items bs) (level_items ds) (λ _. []) es l 16 (level_items ns l))
-          (λ l. given' l ∙ remodal diamonded (held_rules rs) (level_items ns) (λ _. []) (λ _. []) (level_items bs) (level_items ds) (λ _. []) es l 16 (level_items ns l))
-
-      pub boxes_then : (l : ℕ) → level_items bs' l ≡ modals_at boxed (named_state (held_rules rs') (level_items ns')) l
-      boxes_then l = (adds_then (λ _. [])).boxes l ∙ remodal boxed (held_rules rs') (level_items ns') (level_items bs') (level_items ds') (λ _. []) (λ _. []) (λ m. map definition (clauses m)) (λ _. []) l 16 (level_items ns' l)
-
-      pub diamonds_then : (l : ℕ) → level_items ds' l ≡ modals_at diamonded (named_state (held_rules rs') (level_items ns')) l
-      diamonds_then l = (adds_then (λ _. [])).diamonds l ∙ remodal diamonded (held_rules rs') (level_items ns') (level_items bs') (level_items ds') (λ _. []) (λ _. []) (λ m. map definition (clauses m)) (λ _. []) l 16 (level_items ns' l)
+    pub diamonds_then : (l : ℕ) → diamonds_at ts' l ≡ modals_at diamonded (named_state (held_rules rs') (names_at ts')) l
+    diamonds_then l = (adds_then (λ _. [])).diamonds l ∙ remodal diamonded (held_rules rs') (names_at ts') (boxes_at ts') (diamonds_at ts') (λ _. []) (λ _. []) (λ m. map definition (given m)) (λ _. []) l 16 (names_at ts' l)
 
 -- the rules after a push
 pub rules_pushed : (rs rs' : ArrayVec RowList 16) (x : RowList) (rows : List Row) → items_of rs' ≡ items_of rs ++ x ∷ [] → listed x ≡ rows → held_rules rs' ≡ held_rules rs ++ rows ∷ []
-rules_pushed rs rs' x rows e q = ap (map listed) e ∙ map-append listed (items_of rs) (x ∷ []) ∙ ap (λ (r : List Row). held_rules rs ++ r ∷ []) q
+rules_pushed rs rs' x rows e q = grind (arith, common_steps, nat_tests)
 
 pub rules_length : (rs : ArrayVec RowList 16) → length (held_rules rs) ≡ length (items_of rs)
 rules_length rs = length-map (items_of rs) listed
 
-pub same_taken : (r r' : ℕ) (rows rows' : List Row) (n n' : ℕ → List Name) (b b' d d' : ℕ → List ModalClause) (c : ℕ → List Clause) → r ≡ r' → rows ≡ rows' → TakenIn r rows n n' b b' d d' c → TakenIn r' rows' n n' b b' d d' c
-same_taken r r' rows rows' n n' b b' d d' c p q t = subst₂ (λ (m : ℕ) (z : List Row). TakenIn m z n n' b b' d d' c) p q t
+module _ (t : Table) where
+  pub boxes_few : (l : ℕ) → length (boxes_at t.levels l) ≤ length (names_at t.levels l)
+  boxes_few l = subst (λ (xs : List ModalClause). length xs ≤ length (names_at t.levels l)) (sym (t.boxes_given l)) (modals_few boxed boxed_one (named_state (held_rules t.rules) (names_at t.levels)) l)
 
--- the box and diamond clauses of a table
-module _ (rs : ArrayVec RowList 16) (ns : List (ArrayVec Name 48)) (ok : every lawful (held_rules rs) ≡ true) (named : (l : ℕ) → level_items ns l ≡ names_from 0 (held_rules rs) l) (ms : List (ArrayVec ModalClause 48)) (l : ℕ) where
-  naming_held : Naming (named_state (held_rules rs) (level_items ns))
-  naming_held = in_order_naming (named_state (held_rules rs) (level_items ns)) (rules_few rs) ok (level_few ns) named
+  pub diamonds_few : (l : ℕ) → length (diamonds_at t.levels l) ≤ length (names_at t.levels l)
+  diamonds_few l = subst (λ (xs : List ModalClause). length xs ≤ length (names_at t.levels l)) (sym (t.diamonds_given l)) (modals_few diamonded diamonded_one (named_state (held_rules t.rules) (names_at t.levels)) l)
 
-  pub held_boxes_orderly : level_items ms l ≡ modals_at boxed (named_state (held_rules rs) (level_items ns)) l → Orderly l (level_items ms l)
-  held_boxes_orderly e = subst (Orderly l) (sym e) (boxes_orderly (named_state (held_rules rs) (level_items ns)) naming_held l)
+  pub held_boxes_orderly : (l : ℕ) → Orderly l (boxes_at t.levels l)
+  held_boxes_orderly l = subst (Orderly l) (sym (t.boxes_given l)) (boxes_orderly (named_state (held_rules t.rules) (names_at t.levels)) (named_naming t.rules t.levels t.rules_lawful t.named) l)
 
-  pub held_diamonds_orderly : level_items ms l ≡ modals_at diamonded (named_state (held_rules rs) (level_items ns)) l → Orderly l (level_items ms l)
-  held_diamonds_orderly e = subst (Orderly l) (sym e) (diamonds_orderly (named_state (held_rules rs) (level_items ns)) naming_held l)
+  pub held_diamonds_orderly : (l : ℕ) → Orderly l (diamonds_at t.levels l)
+  held_diamonds_orderly l = subst (Orderly l) (sym (t.diamonds_given l)) (diamonds_orderly (named_state (held_rules t.rules) (names_at t.levels)) (named_naming t.rules t.levels t.rules_lawful t.named) l)
 
--- the handle of a rule, by a look at the names of level 0
-module _ (rs : ArrayVec RowList 16) (ns : List (ArrayVec Name 48)) (ok : every lawful (held_rules rs) ≡ true) (named : (l : ℕ) → level_items ns l ≡ names_from 0 (held_rules rs) l) (k : ℕ) where
-  handle_naming : Naming (named_state (held_rules rs) (level_items ns))
-  handle_naming = in_order_naming (named_state (held_rules rs) (level_items ns)) (rules_few rs) ok (level_few ns) named
-
-  pub handle_found : (i : ℕ) → i < length (level_items ns 0) → is_handle_of k (get_or (level_items ns 0) i free) ≡ true → ((j : ℕ) → j < i → is_handle_of k (get_or (level_items ns 0) j free) ≡ false) → (k < length (held_rules rs)) × (16 + i ≡ 16 + first_at (is_handle_of k) (level_items ns 0)) × (16 + i < 64)
-  handle_found i h t f =
-      let few = level_few ns 0 in
-      ((subst (Proper (named_state (held_rules rs) (level_items ns)) 0) (handle_known k (get_or (level_items ns 0) i free) t) (handle_naming.proper 0 i)).0, ap (λ (n : ℕ). 16 + n) (sym (first_at_lem (is_handle_of k) free (level_items ns 0) i h t f)), omega arith)
-
-  pub handle_missing : ((j : ℕ) → j < length (level_items ns 0) → is_handle_of k (get_or (level_items ns 0) j free) ≡ false) → length (held_rules rs) ≤ k
-  handle_missing f = elim (cases_lt k (length (held_rules rs))) [
-    | inl h ↦ absurd (both_ways _ (some_no (is_handle_of k) free (level_items ns 0) f) (some_from (is_handle_of k) (handle_naming.handled k h) (eq-eqb k k refl)))
-    | inr h ↦ h
-  ]
-
--- the rows of a rule, by its place among those held
-pub rows_held : (rs : ArrayVec RowList 16) (k : ℕ) (x : RowList) → k < length (items_of rs) → x ≡ get_or (items_of rs) k x → get_or (held_rules rs) k [] ≡ listed x
-rows_held rs k x h e = get_or-map listed (items_of rs) k x [] h ∙ ap listed (sym e)
+  -- the handle of a rule, by a look at the names of level 0
+  pub handle_known_at : (k : ℕ) → MatchOption (option_map (λ i. 16 + i) (position (is_handle_of k) (names_at t.levels 0))) (length (rules_in t) ≤ k) (λ a. HandleIs t k a)
+  handle_known_at k = rw (position_first (is_handle_of k) (names_at t.levels 0)) (go (some (is_handle_of k) (names_at t.levels 0)) refl)
+    where
+      go : (b : Bool) → some (is_handle_of k) (names_at t.levels 0) ≡ b → MatchOption (option_map (λ i. 16 + i) (cond b (Some (first_at (is_handle_of k) (names_at t.levels 0))) None)) (length (rules_in t) ≤ k) (λ a. HandleIs t k a)
+      go true e =
+          let (p, h) = first_passes (is_handle_of k) free (names_at t.levels 0) e in
+          let few = names_few t.levels 0 in
+          let naming = named_naming t.rules t.levels t.rules_lawful t.named in
+          record { held = (subst (Proper (named_state (held_rules t.rules) (names_at t.levels)) 0) (handle_known k _ p) (naming.proper 0 (first_at (is_handle_of k) (names_at t.levels 0)))).0; is = refl; small = omega arith }
+      go false e = elim (cases_lt k (length (held_rules t.rules))) [
+        | inl h ↦ absurd (both_ways _ e (some_from (is_handle_of k) ((named_naming t.rules t.levels t.rules_lawful t.named).handled k h) (eq-eqb k k refl)))
+        | inr h ↦ h
+      ]

@@ -1,40 +1,68 @@
 -- The names of a level: what a look-up gives, and the literals of rows over them.
-use Rattle.std.proofs.Common.{◌≡◌, ℕ, ◌+◌, ◌<◌, Bool, true, false, not, ◌⊎◌, List, length, get_or, sym, ap, ◌∙◌, subst, inl, inr}
-use Rattle.std.proofs.lemmas.Bool.{cond-true, cond-false}
-use Rattle.lists.proofs.Firsts.{first_at_lem, some_no}
+use Rattle.std.proofs.Common.{◌≡◌, ℕ, ◌+◌, ◌<◌, Bool, true, false, not, cond, ltb, List, length, get_or, Option, Some, None, position, sym, refl, ap, ◌∙◌, arith}
+use Rattle.std.specs.List.{position_or_len}
+use Rattle.std.specs.Option.{option_map, unwrap_or}
+use Rattle.std.proofs.lemmas.Bool.{lt-ltb, le-ltb, false_from_ne_true, both_ways}
+use Rattle.std.proofs.lemmas.List.Recursion.{is_position_or_len}
+use Rattle.lists.specs.Lists.{some, first_at}
+use Rattle.lists.proofs.Firsts.{first_passes, first_no}
 use Rattle.lists.proofs.Members.{some_from, get_or_in}
+use Rattle.modal.specs.Rows.{lawful}
 use Rattle.modal.specs.declared.row.Row.{Row}
-use Rattle.modal.specs.declared.row.Row.TheVariants.{False, Not, And, Or, Box, Diamond}
+use Rattle.atoms.specs.declared.clauses.Literal.{Literal}
+use Rattle.modal.specs.declared.row.Row.TheVariants.{False, True, Letter, Not, And, Or, Box, Diamond}
 use Rattle.clausal.specs.Places.{is_place_of, name_in, literal_of, literals_of}
 use Rattle.clausal.specs.declared.names.Name.{Name}
 use Rattle.clausal.specs.declared.names.Name.TheVariants.{Free as free}
-use Rattle.clausal.proofs.Rows.{RowOk, Lawful, literal_is}
+use Rattle.clausal.proofs.Rows.{RowOk, lawful_rows, literal_is}
 use Rattle.naming.specs.Names.{lit_in}
 
-pub name_first : (xs : List Name) (r k : ℕ) (s : Bool) (i : ℕ) → i < length xs → is_place_of r k s (get_or xs i free) ≡ true → ((j : ℕ) → j < i → is_place_of r k s (get_or xs j free) ≡ false) → 16 + i ≡ name_in xs r k s
-name_first xs r k s i h t f = sym (cond-true _ _ _ (some_from (is_place_of r k s) (get_or_in xs i free h) t) ∙ ap (λ n. 16 + n) (first_at_lem (is_place_of r k s) free xs i h t f))
+-- where the first name stands that passes a test, in the library's words
+first_place : (p : Name → Bool) (xs : List Name) → first_at p xs ≡ position_or_len p xs
+first_place p = is_position_or_len (first_at p) p refl (λ x xs. ap (λ n. cond (p x) 0 n) (omega arith))
 
-pub name_none : (xs : List Name) (r k : ℕ) (s : Bool) → ((j : ℕ) → j < length xs → is_place_of r k s (get_or xs j free) ≡ false) → 0 ≡ name_in xs r k s
-name_none xs r k s f = sym (cond-false _ _ _ (some_no (is_place_of r k s) free xs f))
+some_first : (p : Name → Bool) (xs : List Name) → some p xs ≡ ltb (first_at p xs) (length xs)
+some_first p xs = go (some p xs) refl
+  where
+    go : (b : Bool) → some p xs ≡ b → b ≡ ltb (first_at p xs) (length xs)
+    go true e = sym (lt-ltb _ _ (first_passes p free xs e).1)
+    go false e = sym (le-ltb _ _ (omega (arith, first_no p free xs (λ j h. false_from_ne_true _ (λ t. both_ways _ e (some_from p (get_or_in xs j free h) t))))))
 
--- the literal of row k, by the row, which is read at i
-module _ (xs : List Name) (r : ℕ) (rows : List Row) (ok : Lawful rows) (s : Bool) (k i : ℕ) (h : k < length rows) (e : i ≡ k) where
-  pub lit_row : (row : Row) → get_or rows i False ≡ row → literal_of (name_in xs r) (literals_of (name_in xs r) rows) k row s ≡ lit_in xs r rows s k
-  unfolding lit_in
-  lit_row row q = sym (literal_is rows ok (name_in xs r) _ k s h ∙ ap (λ z. literal_of (name_in xs r) (literals_of (name_in xs r) rows) k z s) (ap (λ j. get_or rows j False) (sym e) ∙ q))
+pub position_first : (p : Name → Bool) (xs : List Name) → position p xs ≡ cond (some p xs) (Some (first_at p xs)) None
+position_first p xs = rw (← first_place p xs, ← some_first p xs) refl
 
-  pub lit_not : (c : ℕ) → get_or rows i False ≡ Not c → lit_in xs r rows (not s) c ≡ lit_in xs r rows s k
-  unfolding lit_in
-  lit_not c q = lit_row (Not c) q
+pub name_found : (xs : List Name) (r k : ℕ) (s : Bool) → unwrap_or (option_map (λ i. 16 + i) (position (is_place_of r k s) xs)) 0 ≡ name_in xs r k s
+name_found xs r k s = ap (λ (o : Option ℕ). unwrap_or (option_map (λ i. 16 + i) o) 0) (position_first (is_place_of r k s) xs) ∙ go (some (is_place_of r k s) xs)
+  where
+    go : (b : Bool) → unwrap_or (option_map (λ i. 16 + i) (cond b (Some (first_at (is_place_of r k s) xs)) None)) 0 ≡ cond b (16 + first_at (is_place_of r k s) xs) 0
+    go true = refl
+    go false = refl
 
-  pub lit_name : ((x : ℕ) × (y : ℕ) × (get_or rows i False ≡ And x y)) ⊎ (((x : ℕ) × (y : ℕ) × (get_or rows i False ≡ Or x y)) ⊎ (((x : ℕ) × (get_or rows i False ≡ Box x)) ⊎ ((x : ℕ) × (get_or rows i False ≡ Diamond x)))) → (n : ℕ) → n ≡ name_in xs r k s → record { atom = n; holds = true } ≡ lit_in xs r rows s k
-  lit_name w n q = ap (λ (a : ℕ). record { atom = a; holds = true }) q ∙ go w
-    where
-      go : ((x : ℕ) × (y : ℕ) × (get_or rows i False ≡ And x y)) ⊎ (((x : ℕ) × (y : ℕ) × (get_or rows i False ≡ Or x y)) ⊎ (((x : ℕ) × (get_or rows i False ≡ Box x)) ⊎ ((x : ℕ) × (get_or rows i False ≡ Diamond x)))) → record { atom = name_in xs r k s; holds = true } ≡ lit_in xs r rows s k
-      go (inl (x, y, z)) = lit_row (And x y) z
-      go (inr (inl (x, y, z))) = lit_row (Or x y) z
-      go (inr (inr (inl (x, z)))) = lit_row (Box x) z
-      go (inr (inr (inr (x, z)))) = lit_row (Diamond x) z
+-- the literal of row k of a rule, by the row
+abbrev pub lit_by : List Name → ℕ → List Row → Bool → ℕ → Row → Literal
+lit_by xs r rows s k False = record { atom = 15; holds = not s }
+lit_by xs r rows s k True = record { atom = 15; holds = s }
+lit_by xs r rows s k (Letter a) = record { atom = a; holds = s }
+lit_by xs r rows s k (Not c) = lit_in xs r rows (not s) c
+lit_by xs r rows s k (And c d) = record { atom = name_in xs r k s; holds = true }
+lit_by xs r rows s k (Or c d) = record { atom = name_in xs r k s; holds = true }
+lit_by xs r rows s k (Box c) = record { atom = name_in xs r k s; holds = true }
+lit_by xs r rows s k (Diamond c) = record { atom = name_in xs r k s; holds = true }
 
-pub row_ok : (rows : List Row) → Lawful rows → (k i : ℕ) → k < length rows → i ≡ k → (row : Row) → get_or rows i False ≡ row → RowOk k row
-row_ok rows ok k i h e row q = subst (RowOk k) (ap (λ j. get_or rows j False) (sym e) ∙ q) (ok.ordered k h)
+pub lit_is : (xs : List Name) (r : ℕ) (rows : List Row) (s : Bool) (k : ℕ) → lawful rows ≡ true → k < length rows → lit_in xs r rows s k ≡ lit_by xs r rows s k (get_or rows k False)
+unfolding lit_in
+lit_is xs r rows s k ok h = literal_is rows (lawful_rows rows ok) (name_in xs r) _ k s h ∙ go (get_or rows k False)
+  where
+    go : (row : Row) → literal_of (name_in xs r) (literals_of (name_in xs r) rows) k row s ≡ lit_by xs r rows s k row
+    go False = refl
+    go True = refl
+    go (Letter a) = refl
+    go (Not c) = refl
+    go (And c d) = refl
+    go (Or c d) = refl
+    go (Box c) = refl
+    go (Diamond c) = refl
+
+-- a lawful row, by itself
+pub row_ok : (rows : List Row) (k : ℕ) → lawful rows ≡ true → k < length rows → RowOk k (get_or rows k False)
+row_ok rows k ok h = (lawful_rows rows ok).ordered k h

@@ -1,5 +1,7 @@
 -- The names that a rule takes, and that the rules take together.
 -- the names that a rule takes
+use Rattle.std.proofs.lemmas.Grind.{common_steps}
+use Rattle.std.proofs.lemmas.Bool.Decides.{nat_tests}
 use Rattle.std.proofs.Common.{◌≡◌, ℕ, zero, suc, ◌+◌, ◌<◌, ◌≤◌, Bool, true, false, cond, eqb, ◌⊎◌, List, [], ◌∷◌, ◌++◌, length, get_or, sym, refl, ap, ◌∙◌, subst, ap₂, inl, inr, append_assoc, add-zero, zero-add, arith, length-append}
 use Rattle.std.proofs.lemmas.List.{append-nil, get_or_past}
 use Rattle.std.proofs.lemmas.Bool.{and_parts, eq-eqb, eqb-true, cases_lt}
@@ -120,8 +122,7 @@ module _ (r : ℕ) (rows : List Row) (ok : Lawful rows) (l : ℕ) where
       go x (inr (z, e)) = omega arith
 
   handle_length : (b : Bool) → length (cond b (handle r ∷ []) []) ≡ cond b 1 0
-  handle_length true = refl
-  handle_length false = refl
+  handle_length v1 = grind (arith, common_steps, nat_tests)
 
   pub own_length : length (names_for r rows l) ≡ count_of_names rows l
   own_length = length-append (places_named r (takers rows l 128)) _ ∙ (ap₂ (λ a b. a + b) (named_length r (takers rows l 128)) (handle_length (eqb l 0)) ∙ taken_is rows ok l _ refl)

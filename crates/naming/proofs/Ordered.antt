@@ -1,51 +1,58 @@
 -- The places that take a name, in order, are those that are counted.
 -- the marks and the test
-use Rattle.std.proofs.Common.{◌≡◌, ℕ, zero, suc, ◌+◌, ◌*◌, ◌/◌, ◌<◌, ◌≤◌, Bool, true, false, cond, ◌&&◌, eqb, List, [], ◌∷◌, ◌++◌, map, length, get_or, filter, sym, refl, ap, ◌∙◌, subst, inl, inr, zero-add, arith, length-append}
-use Rattle.std.specs.List.{range_with_len}
+use Rattle.std.proofs.lemmas.Grind.{common_steps}
+use Rattle.std.proofs.lemmas.Bool.Decides.{nat_tests}
+use Rattle.std.proofs.Common.{◌≡◌, ℕ, zero, suc, ◌+◌, ◌*◌, ◌/◌, ◌<◌, ◌≤◌, Bool, true, false, cond, ◌||◌, eqb, List, [], ◌∷◌, ◌++◌, map, length, get_or, filter, count_by, Some, None, sym, refl, ap, ◌∙◌, subst, inl, inr, zero-add, arith, length-append}
+use Rattle.std.specs.List.{range_with_len, find}
 use Rattle.std.proofs.lemmas.List.FromFn.{map-range_with_len_more, length-range_with_len, get_or-range_with_len}
+use Rattle.std.proofs.lemmas.List.Sums.{length-filter}
 use Rattle.std.proofs.lemmas.List.{map-id, length-map}
-use Rattle.std.proofs.lemmas.Bool.{and_parts, and_from, and_left, eqb-true, eq-eqb, cases_eq, both_ways}
+use Rattle.std.proofs.lemmas.Bool.{and_parts, and_from, eqb-true, eq-eqb, cases_eq, both_ways}
 use Rattle.clausal.proofs.Counted.{counted_once, counted_reached, place_same, reached_counted, same_place}
-use Rattle.clausal.proofs.Rows.{Lawful}
+use Rattle.clausal.proofs.Rows.{Lawful, lawful_rows, reached_ok}
 use Rattle.clausal.specs.Clausal.{wants_name}
 use Rattle.clausal.specs.Counting.{counts_at, count_of_names, places_of, place_eq}
 use Rattle.clausal.specs.Places.{Reached}
 use Rattle.clausal.specs.declared.places.Place.{Place}
 use Rattle.naming.proofs.Places.{number_back, place_back, within}
-use Rattle.naming.specs.Marks.{Marks}
+use Rattle.naming.specs.Marks.{Marks, reaches}
 use Rattle.naming.specs.Numbers.{number_of, place_numbered}
 use Rattle.naming.specs.Order.{takers, takes}
-use Rattle.lists.proofs.Firsts.{first_at_lem, first_no}
 use Rattle.lists.proofs.Members.{in_kept, kept_in, some_from, some_in}
 use Rattle.lists.proofs.Onces.{once_kept, once_le}
 use Rattle.lists.specs.Lists.{In, Once, first_at, here, some, there}
+use Rattle.modal.specs.Rows.{lawful}
 use Rattle.modal.specs.declared.row.Row.{Row}
 use Rattle.modal.specs.declared.row.Row.TheVariants.{False}
 use Rattle.std.proofs.lemmas.List.Elements.{filter-append}
 
-module _ (rows : List Row) (m : List Bool) (ok : Lawful rows) (k : Marks rows m) (n : ℕ) where
-  pub marked_takes : get_or m n false ≡ true → wants_name (get_or rows (place_numbered n).row False) ≡ takes rows n
-  unfolding takes
-  marked_takes e = sym (ap (λ b. b && wants_name (get_or rows (place_numbered n).row False)) (some_from (place_eq (place_numbered n)) (reached_counted rows ok (k.only n e)) (place_same (place_numbered n))))
+pub reaches_reached : (rows : List Row) (n : ℕ) → reaches rows n ≡ true → Reached rows (place_numbered n)
+unfolding reaches
+reaches_reached rows n e = let (q, i, s) = some_in (place_eq (place_numbered n)) (places_of rows) e in subst (Reached rows) (sym (same_place (place_numbered n) q s)) (counted_reached rows i)
 
-  pub unmarked_takes : get_or m n false ≡ false → takes rows n ≡ false
-  unfolding takes
-  unmarked_takes e = and_left _ _ (go (some (place_eq (place_numbered n)) (places_of rows)) refl)
-    where
-      go : (b : Bool) → some (place_eq (place_numbered n)) (places_of rows) ≡ b → b ≡ false
-      go false h = refl
-      go true h =
-          let (q, i, s) = some_in (place_eq (place_numbered n)) (places_of rows) h in
-          let r : Reached rows (place_numbered n) = subst (Reached rows) (sym (same_place (place_numbered n) q s)) (counted_reached rows i) in
-          absurd (both_ways (get_or m n false) e (subst (λ j. get_or m j false ≡ true) (number_back n) (k.every (place_numbered n) r)))
+pub reached_reaches : (rows : List Row) → Lawful rows → (n : ℕ) → Reached rows (place_numbered n) → reaches rows n ≡ true
+unfolding reaches
+reached_reaches rows ok n r = some_from (place_eq (place_numbered n)) (reached_counted rows ok r) (place_same (place_numbered n))
 
-pub takes_reached : (rows : List Row) (n : ℕ) → takes rows n ≡ true → Reached rows (place_numbered n) × (wants_name (get_or rows (place_numbered n).row False) ≡ true)
+pub marks_reached : (rows : List Row) → Lawful rows → (m : List Bool) → ((n : ℕ) → get_or m n false ≡ true → Reached rows (place_numbered n)) → ((p : Place) → Reached rows p → get_or m (number_of p) false ≡ true) → Marks rows m
+marks_reached rows ok m only every n = go (get_or m n false) (reaches rows n) refl refl
+  where
+    go : (a b : Bool) → get_or m n false ≡ a → reaches rows n ≡ b → a ≡ b
+    go true b e f = sym (reached_reaches rows ok n (only n e)) ∙ f
+    go false false e f = refl
+    go false true e f = absurd (both_ways (get_or m n false) e (subst (λ j. get_or m j false ≡ true) (number_back n) (every (place_numbered n) (reaches_reached rows n f))))
+
+takes_reached : (rows : List Row) (n : ℕ) → takes rows n ≡ true → Reached rows (place_numbered n) × (wants_name (get_or rows (place_numbered n).row False) ≡ true)
 unfolding takes
-takes_reached rows n e = let (a, b) = and_parts _ _ e in let (q, i, s) = some_in (place_eq (place_numbered n)) (places_of rows) a in (subst (Reached rows) (sym (same_place (place_numbered n) q s)) (counted_reached rows i), b)
+takes_reached rows n e = let (a, b) = and_parts _ _ e in (reaches_reached rows n a, b)
 
-pub reached_takes : (rows : List Row) → Lawful rows → (n : ℕ) → Reached rows (place_numbered n) → wants_name (get_or rows (place_numbered n).row False) ≡ true → takes rows n ≡ true
+reached_takes : (rows : List Row) → Lawful rows → (n : ℕ) → Reached rows (place_numbered n) → wants_name (get_or rows (place_numbered n).row False) ≡ true → takes rows n ≡ true
 unfolding takes
-reached_takes rows ok n r t = and_from _ _ (some_from (place_eq (place_numbered n)) (reached_counted rows ok r) (place_same (place_numbered n))) t
+reached_takes rows ok n r t = and_from _ _ (reached_reaches rows ok n r) t
+
+-- a place that is reached is at one of the rows
+pub reaches_row : (rows : List Row) → lawful rows ≡ true → (n : ℕ) → reaches rows n ≡ true → (place_numbered n).row < length rows
+reaches_row rows ok n e = (reached_ok rows (lawful_rows rows ok) (reaches_reached rows n e)).0
 
 pub counting_more : (a n : ℕ) → range_with_len a (n + 1) ≡ range_with_len a n ++ ((a + n) ∷ [])
 counting_more a n = sym (map-id (range_with_len a (n + 1))) ∙ (map-range_with_len_more (λ x. x) a n (a + n) refl ∙ ap (λ xs. xs ++ ((a + n) ∷ [])) (map-id (range_with_len a n)))
@@ -58,6 +65,10 @@ takers_none rows l = refl
 pub takers_more : (rows : List Row) (l i : ℕ) (b : Bool) → b ≡ takes rows (l * 128 + i) → takers rows l (i + 1) ≡ takers rows l i ++ cond b ((l * 128 + i) ∷ []) []
 unfolding takers
 takers_more rows l i b e = ap (filter (takes rows)) (counting_more (l * 128) i) ∙ (filter-append (takes rows) (range_with_len (l * 128) i) ((l * 128 + i) ∷ []) ∙ ap (λ c. filter (takes rows) (range_with_len (l * 128) i) ++ cond c ((l * 128 + i) ∷ []) []) (sym e))
+
+pub takers_by : (rows : List Row) (l : ℕ) → count_by (takes rows) (range_with_len (l * 128) 128) ≡ length (takers rows l 128)
+unfolding takers
+takers_by rows l = sym (length-filter (takes rows) (range_with_len (l * 128) 128))
 
 pub takers_few : (rows : List Row) (l i : ℕ) → length (takers rows l i) ≤ i
 unfolding takers
@@ -142,15 +153,26 @@ module _ (rows : List Row) (ok : Lawful rows) (l : ℕ) where
   pub taken_is : (z : ℕ) → z ≡ cond (eqb l 0) 1 0 → length (takers rows l 128) + z ≡ count_of_names rows l
   taken_is z e = ap (λ n. n + z) takers_counted ∙ ap (λ y. length (filter (counts_at rows l) (places_of rows)) + y) e
 
-level_at : (k : ℕ) → k < 8 → get_or (range_with_len 0 8) k 0 ≡ k
-level_at k h = get_or-range_with_len 0 8 k 0 h ∙ zero-add k
+-- the lowest level that passes a test
+find_first : (p : ℕ → Bool) (xs : List ℕ) → find p xs ≡ cond (some p xs) (Some (get_or xs (first_at p xs) 0)) None
+find_first p [] = refl
+find_first p (x ∷ xs) = go (p x) (find_first p xs)
+  where
+    go : (b : Bool) → find p xs ≡ cond (some p xs) (Some (get_or xs (first_at p xs) 0)) None → cond b (Some x) (find p xs) ≡ cond (b || some p xs) (Some (get_or (x ∷ xs) (cond b 0 (suc (first_at p xs))) 0)) None
+    go true e = refl
+    go false e = e
 
--- the lowest level that passes a test, or 8
-pub lowest_level : (p : ℕ → Bool) (k : ℕ) → k < 8 → p k ≡ true → ((j : ℕ) → j < k → p j ≡ false) → first_at p (range_with_len 0 8) ≡ k
-lowest_level p k h t f = first_at_lem p 0 (range_with_len 0 8) k (omega (arith, length-range_with_len 0 8)) (ap p (level_at k h) ∙ t) (λ j l. ap p (level_at j (omega arith)) ∙ f j l)
+pub level_at : (k d : ℕ) → k < 8 → get_or (range_with_len 0 8) k d ≡ k
+level_at k d h = get_or-range_with_len 0 8 k d h ∙ zero-add k
 
-pub no_level : (p : ℕ → Bool) → ((j : ℕ) → j < 8 → p j ≡ false) → first_at p (range_with_len 0 8) ≡ 8
-no_level p f = first_no p 0 (range_with_len 0 8) (λ j l. ap p (level_at j (omega (arith, length-range_with_len 0 8))) ∙ f j (omega (arith, length-range_with_len 0 8))) ∙ length-range_with_len 0 8
+pub level_found : (p : ℕ → Bool) (l : ℕ) → Some l ≡ find p (range_with_len 0 8) → (l ≡ first_at p (range_with_len 0 8)) × (l < 8)
+level_found p l e = grind (arith, common_steps, nat_tests)
+
+pub no_level : (p : ℕ → Bool) → None ≡ find p (range_with_len 0 8) → (l : ℕ) → l < 8 → p l ≡ false
+no_level p e l h = grind (arith, common_steps, nat_tests)
+
+pub no_first : (p : ℕ → Bool) → None ≡ find p (range_with_len 0 8) → first_at p (range_with_len 0 8) ≡ 8
+no_first p e = grind (arith, common_steps, nat_tests)
 
 pub takers_count : (rows : List Row) (l i : ℕ) (b : Bool) → b ≡ takes rows (l * 128 + i) → length (takers rows l (i + 1)) ≡ length (takers rows l i) + cond b 1 0
 takers_count rows l i b e = ap length (takers_more rows l i b e) ∙ (length-append (takers rows l i) _ ∙ ap (λ n. length (takers rows l i) + n) (go b))

@@ -1,6 +1,8 @@
 -- Places and their numbers.
-use Rattle.std.proofs.Common.{◌≡◌, ℕ, ◌+◌, ◌*◌, ◌/◌, ◌%◌, ◌<◌, Bool, true, false, cond, eqb, List, refl, arith}
-use Rattle.std.proofs.lemmas.Bool.{eq-eqb, ne_eqb, eqb-true, eqb-false}
+use Rattle.std.proofs.lemmas.Grind.{common_steps}
+use Rattle.std.proofs.lemmas.Bool.Decides.{nat_tests}
+use Rattle.std.proofs.Common.{◌≡◌, ℕ, ◌+◌, ◌*◌, ◌/◌, ◌%◌, ◌<◌, Bool, true, false, cond, eqb, List, arith}
+use Rattle.std.proofs.lemmas.Bool.{eq-eqb, ne_eqb}
 use Rattle.clausal.proofs.Rows.{Lawful, reached_ok}
 use Rattle.clausal.specs.Places.{Reached}
 use Rattle.clausal.specs.declared.places.Place.{Place}
@@ -27,18 +29,10 @@ place_back p h =
     sign false = ne_eqb _ 0 (λ e. omega arith)
 
 pub number_small : (p : Place) → p.row < 64 → p.level < 8 → number_of p < 1024
-number_small p h k = go p.plus
-  where
-    go : (s : Bool) → p.level * 128 + p.row * 2 + cond s 0 1 < 1024
-    go true = omega arith
-    go false = omega arith
+number_small p h k = grind (arith, common_steps, nat_tests)
 
 pub number_back : (n : ℕ) → number_of (place_numbered n) ≡ n
-number_back n = go (eqb (n % 2) 0) refl
-  where
-    go : (s : Bool) → eqb (n % 2) 0 ≡ s → n / 128 * 128 + n % 128 / 2 * 2 + cond s 0 1 ≡ n
-    go true e = let h = eqb-true (n % 2) 0 e in omega arith
-    go false e = let h : n % 2 ≡ 0 → ⊥ = eqb-false (n % 2) 0 e in let k : n % 2 ≡ 1 = omega arith in omega arith
+number_back n = grind (arith, common_steps, nat_tests)
 
 pub record Within (p : Place) : Type 0 where
   pub row : p.row < 64

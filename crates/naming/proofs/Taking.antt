@@ -1,99 +1,70 @@
 -- A rule taken in at every level.
-use Rattle.std.proofs.Common.{◌≡◌, ℕ, suc, ◌+◌, ◌-◌, ◌<◌, ◌≤◌, Bool, true, false, List, [], ◌∷◌, ◌++◌, map, length, get_or, drop, sym, refl, ap, ◌∙◌, subst, ap₂, inl, inr, arith, length-append}
-use Rattle.std.proofs.lemmas.List.{append-nil, get_or_past, get_or-append_right, drop_at, length-map}
-use Rattle.std.proofs.lemmas.Bool.{cases_lt}
-use Rattle.clausal.proofs.Rows.{Lawful, reached_ok}
-use Rattle.clausal.specs.Clausal.{boxed, diamonded, gather, shape}
-use Rattle.clausal.specs.Counting.{count_of_names}
-use Rattle.clausal.specs.Places.{Reached, next}
-use Rattle.clausal.specs.declared.modal_clauses.ModalClause.{ModalClause}
+use Rattle.std.proofs.lemmas.Grind.{common_steps}
+use Rattle.std.proofs.lemmas.Bool.Decides.{nat_tests}
+use Rattle.std.proofs.Common.{◌≡◌, ℕ, suc, ◌+◌, ◌-◌, ◌<◌, ◌≤◌, List, [], ◌++◌, map, length, get_or, set, take, drop, sym, refl, ap, ◌∙◌, subst, subst₂, ap₂, inl, inr, arith, length-append}
+use Rattle.std.proofs.lemmas.List.{get_or_past, drop_at, take_all, length-map}
+use Rattle.std.proofs.lemmas.Bool.{cases_eq, cases_lt}
+use Rattle.clausal.proofs.Rows.{Lawful}
+use Rattle.clausal.specs.Clausal.{boxed, diamonded, gather}
 use Rattle.clausal.specs.declared.names.Name.{Name}
 use Rattle.clausal.specs.declared.names.Name.TheVariants.{Free as free}
-use Rattle.clausal.specs.declared.places.Place.{Place}
-use Rattle.clausal.specs.declared.shapes.Shape.{Shape}
-use Rattle.naming.proofs.Named.{Mine, own_beyond, own_in, own_length}
-use Rattle.naming.proofs.Places.{within}
+use Rattle.naming.proofs.Named.{Mine, own_beyond, own_in}
 use Rattle.naming.specs.Names.{InRule, clauses_own, modal_own, names_for}
-use Rattle.naming.specs.TakenIn.{TakenIn}
+use Rattle.naming.specs.TakenIn.{TakenAt}
+use Rattle.fixed_list.specs.Items.{items_of}
+use Rattle.fixed_list.specs.declared.ArrayVec.{ArrayVec}
+use Rattle.naming.specs.Levels.{LevelLists, no_lists, lists_of, lists_at, names_at, level_items}
+use Rattle.naming.specs.declared.level_table.LevelTable.{LevelTable}
+use Rattle.naming.proofs.Every.{level_beyond, read_set, read_other}
 use Rattle.atoms.specs.declared.clauses.Clause.{Clause}
 use Rattle.lists.proofs.Members.{get_or_in}
-use Rattle.lists.specs.Lists.{In, here, there}
 use Rattle.modal.specs.declared.row.Row.{Row}
-use Rattle.modal.specs.declared.row.Row.TheVariants.{And, Box, Diamond, False, Letter, Not, Or, True}
 
 module _ (r : ℕ) (rows : List Row) (ok : Lawful rows) (l : ℕ) where
   mine_in : (x : Name) → Mine r rows l x → InRule rows x
-  mine_in x (inl (k, s, y, t, e)) = subst (InRule rows) (sym e) (reached_ok rows ok y).0
-  mine_in x (inr (z, e)) = subst (InRule rows) (sym e) tt
+  mine_in v1 v2 = grind (arith, common_steps, nat_tests)
 
-  pub own_rule : (n n' : List Name) → n' ≡ n ++ names_for r rows l → (i : ℕ) → length n ≤ i → InRule rows (get_or n' i free)
-  own_rule n n' e i h = subst (InRule rows) (sym (ap (λ t. get_or t i free) e ∙ get_or-append_right n (names_for r rows l) (length n) i free refl h)) (elim (cases_lt (i - length n) (length (names_for r rows l))) [
-    | inl k ↦ mine_in _ (own_in r rows l (get_or_in (names_for r rows l) (i - length n) free k))
-    | inr k ↦ subst (InRule rows) (sym (get_or_past (names_for r rows l) (i - length n) free k)) tt
-  ])
-
-  -- the last level has no box and no diamond
-  no_modal : (k : ℕ) (s : Bool) → Reached rows (record { row = k; plus = s; level = l }) → 7 ≤ l → (boxed (shape (get_or rows k False) s) ≡ []) × (diamonded (shape (get_or rows k False) s) ≡ [])
-  no_modal k s x h = go (get_or rows k False) s refl x
-    where
-      deep : {q : Place} → Reached rows q → q.level ≡ suc l → ⊥
-      deep y e = let w = (within rows ok y).level in omega arith
-
-      go : (row : Row) (t : Bool) → get_or rows k False ≡ row → Reached rows (record { row = k; plus = t; level = l }) → (boxed (shape row t) ≡ []) × (diamonded (shape row t) ≡ [])
-      go False t e x = (refl, refl)
-      go True t e x = (refl, refl)
-      go (Letter a) t e x = (refl, refl)
-      go (Not c) t e x = (refl, refl)
-      go (And c d) true e x = (refl, refl)
-      go (And c d) false e x = (refl, refl)
-      go (Or c d) true e x = (refl, refl)
-      go (Or c d) false e x = (refl, refl)
-      go (Box c) t e x = absurd (deep {q = record { row = c; plus = t; level = suc l }} (next x (rw e here)) refl)
-      go (Diamond c) t e x = absurd (deep {q = record { row = c; plus = t; level = suc l }} (next x (rw e here)) refl)
-
-  gather_none : {A : Type 0} (f : ℕ → Name → List A) (m : ℕ) (xs : List Name) → ((m : ℕ) (x : Name) → In x xs → f m x ≡ []) → gather f m xs ≡ []
-  gather_none f m [] h = refl
-  gather_none f m (x ∷ xs) h = ap₂ ◌++◌ (h m x here) (gather_none f (suc m) xs (λ k y i. h k y (there i)))
-
-  pub last_none : (ys : List Name) (m : ℕ) → 7 ≤ l → (gather (modal_own boxed ys r rows) m (names_for r rows l) ≡ []) × (gather (modal_own diamonded ys r rows) m (names_for r rows l) ≡ [])
-  last_none ys m h = (gather_none _ m _ (λ k x i. at_box k x (own_in r rows l i)), gather_none _ m _ (λ k x i. at_diamond k x (own_in r rows l i)))
-    where
-      at_box : (m : ℕ) (x : Name) → Mine r rows l x → modal_own boxed ys r rows m x ≡ []
-      at_box m x (inl (k, s, y, t, e)) = subst (λ z. modal_own boxed ys r rows m z ≡ []) (sym e) (rw (no_modal k s y h).0 refl)
-      at_box m x (inr (z, e)) = subst (λ z. modal_own boxed ys r rows m z ≡ []) (sym e) refl
-
-      at_diamond : (m : ℕ) (x : Name) → Mine r rows l x → modal_own diamonded ys r rows m x ≡ []
-      at_diamond m x (inl (k, s, y, t, e)) = subst (λ z. modal_own diamonded ys r rows m z ≡ []) (sym e) (rw (no_modal k s y h).1 refl)
-      at_diamond m x (inr (z, e)) = subst (λ z. modal_own diamonded ys r rows m z ≡ []) (sym e) refl
-
-pub past : {A B : Type 0} (f : A → List B) (fs : List A) (l : ℕ) → length fs ≡ 8 → 8 ≤ l → get_or (map f fs) l [] ≡ []
-past f fs l e h = get_or_past (map f fs) l [] (omega (arith, length-map fs f))
-
--- the slots from the old length on are the new ones
-pub dropped : {A : Type 0} (f : ℕ → Name → List A) (n n' o : List Name) (k : ℕ) → k ≡ length n → n' ≡ n ++ o → gather f (16 + k) (drop k n') ≡ gather f (16 + length n) o
-dropped f n n' o k e q = ap₂ (λ j t. gather f (16 + j) (drop j t)) e q ∙ ap (gather f (16 + length n)) (drop_at n o (length n) refl)
-
-pub names_all : (r : ℕ) (rows : List Row) → Lawful rows → (n n' : ℕ → List Name) → ((l : ℕ) → 8 ≤ l → n l ≡ []) → ((l : ℕ) → 8 ≤ l → n' l ≡ []) → ((l : ℕ) → l < 8 → n' l ≡ n l ++ names_for r rows l) → (l : ℕ) → n' l ≡ n l ++ names_for r rows l
-names_all r rows ok n n' p p' h l = elim (cases_lt l 8) [ inl k ↦ h l k | inr k ↦ p' l k ∙ sym (ap₂ ◌++◌ (p l k) (own_beyond r rows ok l k)) ]
-
-pub new_room : (r : ℕ) (rows : List Row) → Lawful rows → (l : ℕ) (n n' : List Name) → n' ≡ n ++ names_for r rows l → length n + count_of_names rows l ≤ 48 → length n' ≤ 48
-new_room r rows ok l n n' e h = omega (arith, ap length e, length-append n (names_for r rows l), own_length r rows ok l)
-
-module _ (r : ℕ) (rows : List Row) (ok : Lawful rows) (n n' : ℕ → List Name) (from : ℕ → ℕ) (names : (l : ℕ) → n' l ≡ n l ++ names_for r rows l) (F : (l : ℕ) → from l ≡ length (n l)) where
-  modals_of : (under : Shape → List ℕ) → ((ys : List Name) (m l : ℕ) → 7 ≤ l → gather (modal_own under ys r rows) m (names_for r rows l) ≡ []) → (b b' : ℕ → List ModalClause) → ((l : ℕ) → l < 7 → b' l ≡ b l ++ gather (modal_own under (n' (l + 1)) r rows) (16 + from l) (drop (from l) (n' l))) → ((l : ℕ) → 7 ≤ l → b' l ≡ b l) → (l : ℕ) → b' l ≡ b l ++ gather (modal_own under (n' (suc l)) r rows) (16 + length (n l)) (names_for r rows l)
-  modals_of under nothing b b' h k l = elim (cases_lt l 7) [
-    | inl x ↦ (let e : l + 1 ≡ suc l = omega arith in h l x ∙ ap (λ t. b l ++ t) (dropped (modal_own under (n' (l + 1)) r rows) (n l) (n' l) (names_for r rows l) (from l) (F l) (names l) ∙ ap (λ j. gather (modal_own under (n' j) r rows) (16 + length (n l)) (names_for r rows l)) e))
-    | inr x ↦ k l x ∙ (sym (append-nil (b l)) ∙ ap (λ t. b l ++ t) (sym (nothing (n' (suc l)) (16 + length (n l)) l x)))
+  pub own_rule : (i : ℕ) → InRule rows (get_or (names_for r rows l) i free)
+  own_rule i = elim (cases_lt i (length (names_for r rows l))) [
+    | inl k ↦ mine_in _ (own_in r rows l (get_or_in (names_for r rows l) i free k))
+    | inr k ↦ subst (InRule rows) (sym (get_or_past (names_for r rows l) i free k)) tt
   ]
 
-  pub taken_in : ((l : ℕ) → length (n l) + count_of_names rows l ≤ 48) → (b b' d d' : ℕ → List ModalClause) (c c' : ℕ → List Clause) → ((l : ℕ) → c l ≡ []) → ((l : ℕ) → l < 8 → c' l ≡ c l ++ gather (clauses_own (n' l) r rows) (16 + from l) (drop (from l) (n' l))) → ((l : ℕ) → 8 ≤ l → c' l ≡ []) → ((l : ℕ) → l < 7 → b' l ≡ b l ++ gather (modal_own boxed (n' (l + 1)) r rows) (16 + from l) (drop (from l) (n' l))) → ((l : ℕ) → l < 7 → d' l ≡ d l ++ gather (modal_own diamonded (n' (l + 1)) r rows) (16 + from l) (drop (from l) (n' l))) → ((l : ℕ) → 7 ≤ l → (b' l ≡ b l) × (d' l ≡ d l)) → TakenIn r rows n n' b b' d d' c'
-  taken_in room b b' d d' c c' empty C P B D R = record {
-    names = names;
-    room = λ l. new_room r rows ok l (n l) (n' l) (names l) (room l);
-    boxes = modals_of boxed (λ ys m l x. (last_none r rows ok l ys m x).0) b b' B (λ l x. (R l x).0);
-    diamonds = modals_of diamonded (λ ys m l x. (last_none r rows ok l ys m x).1) d d' D (λ l x. (R l x).1);
-    clauses = λ l. elim (cases_lt l 8) [
-      | inl x ↦ C l x ∙ (ap (λ t. t ++ gather (clauses_own (n' l) r rows) (16 + from l) (drop (from l) (n' l))) (empty l) ∙ dropped (clauses_own (n' l) r rows) (n l) (n' l) (names_for r rows l) (from l) (F l) (names l))
-      | inr x ↦ P l x ∙ sym (ap (gather (clauses_own (n' l) r rows) (16 + length (n l))) (own_beyond r rows ok l x))
-    ];
-  }
+-- the slots from the old length on are the new ones
+pub taken_slots : (n n' o : List Name) (m : ℕ) → m ≡ length n → n' ≡ n ++ o → take (length n' - m) (drop m n') ≡ o
+taken_slots n n' o m e q =
+    let z : drop m n' ≡ o = ap₂ drop e q ∙ drop_at n o (length n) refl in
+    ap (take (length n' - m)) z ∙ take_all (length n' - m) o (omega (arith, ap length q, length-append n o))
+
+-- beyond the last level nothing is taken
+pub taken_beyond : (r : ℕ) (rows : List Row) → Lawful rows → (l : ℕ) (further : List Name) → 8 ≤ l → TakenAt r rows l further no_lists no_lists []
+taken_beyond r rows ok l further h =
+    let e : names_for r rows l ≡ [] = own_beyond r rows ok l h in
+    record { names = sym e; room = omega arith; boxes = sym (ap (gather (modal_own boxed further r rows) 16) e); diamonds = sym (ap (gather (modal_own diamonded further r rows) 16) e); clauses = sym (ap (gather (clauses_own [] r rows) 16) e) }
+
+pub beyond_taken : (r : ℕ) (rows : List Row) → Lawful rows → (ts : List LevelTable) (vs : List (ArrayVec Clause 96)) → length ts ≡ 8 → length vs ≡ 8 → (k : ℕ) → 8 ≤ k → TakenAt r rows k (names_at ts (suc k)) (lists_at ts k) (lists_at ts k) (level_items vs k)
+beyond_taken r rows ok ts vs e q k h =
+    subst₂ (λ (s : LevelLists) (cs : List Clause). TakenAt r rows k (names_at ts (suc k)) s s cs) (sym (level_beyond ts k (omega arith))) (sym (get_or_past (map items_of vs) k [] (omega (arith, length-map vs (items_of {T = Clause} {N = 96}))))) (taken_beyond r rows ok k (names_at ts (suc k)) h)
+
+same_taken : (r : ℕ) (rows : List Row) (l : ℕ) (further further' : List Name) (b b' a a' : LevelLists) (cs cs' : List Clause) → further ≡ further' → b ≡ b' → a ≡ a' → cs ≡ cs' → TakenAt r rows l further b a cs → TakenAt r rows l further' b' a' cs'
+same_taken r rows l further further' b b' a a' cs cs' e f g h t =
+    subst₂ (λ (x y : LevelLists). TakenAt r rows l further' x y cs') f g (subst₂ (λ (n : List Name) (v : List Clause). TakenAt r rows l n b a v) e h t)
+
+-- one level more is taken in, below those that are
+module _ (r : ℕ) (rows : List Row) (zs ts : List LevelTable) (vs : List (ArrayVec Clause 96)) (m : ℕ) (x : LevelTable) (v : ArrayVec Clause 96) (h : m < length ts) (k : m < length vs) (done : (j : ℕ) → m + 1 ≤ j → TakenAt r rows j (names_at ts (suc j)) (lists_at zs j) (lists_at ts j) (level_items vs j)) (left : (j : ℕ) → j < m + 1 → lists_at ts j ≡ lists_at zs j) (further : List Name) (f : further ≡ names_at ts (m + 1)) (t : TakenAt r rows m further (lists_at ts m) (lists_of x) (items_of v)) where
+  other : (j : ℕ) → (j ≡ m → ⊥) → lists_at (set ts m x) j ≡ lists_at ts j
+  other = read_other lists_of no_lists ts m x
+
+  taken_here : TakenAt r rows m (names_at (set ts m x) (suc m)) (lists_at zs m) (lists_at (set ts m x) m) (level_items (set vs m v) m)
+  taken_here =
+      let e : m + 1 ≡ suc m = omega arith in
+      same_taken r rows m _ _ _ _ _ _ _ _ (f ∙ ap (names_at ts) e ∙ sym (ap (λ (s : LevelLists). s.names) (other (suc m) (λ q. omega arith)))) (left m (omega arith)) (sym (read_set lists_of no_lists ts m x h)) (sym (read_set items_of [] vs m v k)) t
+
+  pub level_taken : (j : ℕ) → m ≤ j → TakenAt r rows j (names_at (set ts m x) (suc j)) (lists_at zs j) (lists_at (set ts m x) j) (level_items (set vs m v) j)
+  level_taken j b = elim (cases_eq j m) [
+    | inl q ↦ subst (λ i. TakenAt r rows i (names_at (set ts m x) (suc i)) (lists_at zs i) (lists_at (set ts m x) i) (level_items (set vs m v) i)) (sym q) taken_here
+    | inr q ↦ same_taken r rows j _ _ _ _ _ _ _ _ (sym (ap (λ (s : LevelLists). s.names) (other (suc j) (λ e. omega arith)))) refl (sym (other j q)) (sym (read_other items_of [] vs m v j q)) (done j (omega arith))
+  ]
+
+  pub level_left : (j : ℕ) → j < m → lists_at (set ts m x) j ≡ lists_at zs j
+  level_left j b = other j (λ q. omega arith) ∙ left j (omega arith)

@@ -1,13 +1,16 @@
 -- A walk over the places of a rule: what it keeps, and where it ends.
 -- how many are marked
-use Rattle.std.proofs.Common.{◌≡◌, ℕ, zero, suc, ◌+◌, ◌<◌, ◌≤◌, Bool, true, false, cond, not, ◌⊎◌, List, [], ◌∷◌, ◌++◌, length, get_or, set, replicate, sym, refl, ap, ◌∙◌, subst, inl, inr, arith}
+use Rattle.std.proofs.lemmas.Grind.{common_steps}
+use Rattle.std.proofs.lemmas.Bool.Decides.{nat_tests}
+use Rattle.std.proofs.Common.{◌≡◌, ℕ, zero, suc, ◌+◌, ◌<◌, ◌≤◌, Bool, true, false, cond, ltb, not, ◌⊎◌, List, [], ◌∷◌, ◌++◌, length, get_or, set, replicate, sym, refl, ap, ◌∙◌, subst, inl, inr, arith}
 use mathlib.Core.Bool.{false≢true}
-use Rattle.std.proofs.lemmas.List.{get_or-set_same, get_or-set_other, length-set, get_or_past, get_or-replicate, length-replicate}
-use Rattle.std.proofs.lemmas.Bool.{cases_eq, cases_lt, both_ways}
+use Rattle.std.proofs.lemmas.List.{get_or-set_same, get_or-set_other, length-set, get_or_past, length-replicate}
+use Rattle.std.proofs.lemmas.Bool.{cases_eq, cases_lt, both_ways, lt-ltb, cond-true}
 use Rattle.clausal.proofs.Rows.{Lawful, reached_ok}
 use Rattle.clausal.specs.Places.{Reached, last, leads, next}
 use Rattle.clausal.specs.declared.places.Place.{Place}
 use Rattle.naming.proofs.Places.{Within, number_small, place_back, within}
+use Rattle.naming.proofs.Ordered.{marks_reached}
 use Rattle.naming.specs.Marks.{Marks, marked}
 use Rattle.naming.specs.Numbers.{number_of, place_numbered}
 use Rattle.naming.specs.Walk.{Walking, last_of, leads_of}
@@ -40,11 +43,12 @@ marked_same [] n e = refl
 marked_same (b ∷ m) zero e = ap (λ c. c ∷ m) (sym e)
 marked_same (b ∷ m) (suc n) e = ap (λ c. b ∷ c) (marked_same m n e)
 
-pub push_held : (b r : Bool) (s : List ℕ) (n k : ℕ) → r ≡ true → b ≡ false → n ≡ k → cond r (s ++ (n ∷ [])) s ≡ cond b s (s ++ (k ∷ []))
-push_held b r s n k p q e = rw (p, q, e)
+-- a stack with an entry for some of the marked numbers has room for one that is not marked
+pub put : (m : List Bool) (n : ℕ) (s t slots : List ℕ) → n < length m → get_or m n false ≡ false → length slots ≡ length m → length s ≤ marked m → t ≡ cond (ltb (length s) (length slots)) (s ++ n ∷ []) s → t ≡ s ++ n ∷ []
+put m n s t slots h f e l p = let k = marked_lt m n h f in p ∙ cond-true _ _ _ (lt-ltb (length s) (length slots) (omega arith))
 
 none_marked : (n k : ℕ) → get_or (replicate n false) k false ≡ false
-none_marked n k = elim (cases_lt k n) [ inl h ↦ get_or-replicate n k false false h | inr h ↦ get_or_past (replicate n false) k false (omega (arith, length-replicate n false)) ]
+none_marked n k = grind (arith, common_steps, nat_tests)
 
 pub begun : (rows : List Row) → Walking rows (last_of rows ∷ []) (replicate 1024 false) []
 begun rows = record {
@@ -119,7 +123,7 @@ module _ (rows : List Row) (ok : Lawful rows) where
     top_row = (reached_ok rows ok on).0
 
   pub ended : (m : List Bool) → Walking rows [] m [] → Marks rows m
-  ended m w = record { size = w.size; only = w.only; every = λ p r. all r }
+  ended m w = marks_reached rows ok m w.only (λ p r. all r)
     where
       all : {p : Place} → Reached rows p → get_or m (number_of p) false ≡ true
       all last = elim w.root [ inl e ↦ e | inr i ↦ elim i [ ] ]
@@ -131,19 +135,16 @@ module _ (rows : List Row) (ok : Lawful rows) where
 -- the places that are due, by the row that leads to them, which is read at k
 module _ (rows : List Row) (p : Place) (m : List Bool) (s : List ℕ) (h : p.row < length rows) (k : ℕ) (e : k ≡ p.row) (w : Walking rows (leads_of rows p) m s) where
   due_by : (r : Row) → get_or rows k False ≡ r → Walking rows (leads r p.plus p.level) m s
-  due_by r q = subst (λ (z : Row). Walking rows (leads z p.plus p.level) m s) (ap (λ i. get_or rows i False) (sym e) ∙ q) w
+  due_by r q = grind (arith, common_steps, nat_tests)
 
   pub due_none : (get_or rows k False ≡ False) ⊎ ((get_or rows k False ≡ True) ⊎ ((x : ℕ) × (get_or rows k False ≡ Letter x))) → Walking rows [] m s
-  due_none (inl q) = due_by False q
-  due_none (inr (inl q)) = due_by True q
-  due_none (inr (inr (x, q))) = due_by (Letter x) q
+  due_none v1 = grind (arith, common_steps, nat_tests)
 
   pub due_not : (c : ℕ) → get_or rows k False ≡ Not c → Walking rows (record { row = c; plus = not p.plus; level = p.level } ∷ []) m s
   due_not c q = due_by (Not c) q
 
   pub due_two : (c d : ℕ) → (get_or rows k False ≡ And c d) ⊎ (get_or rows k False ≡ Or c d) → Walking rows (record { row = c; plus = p.plus; level = p.level } ∷ (record { row = d; plus = p.plus; level = p.level } ∷ [])) m s
-  due_two c d (inl q) = due_by (And c d) q
-  due_two c d (inr q) = due_by (Or c d) q
+  due_two v1 v2 v3 = grind (arith, common_steps, nat_tests)
 
   one_on : (c : ℕ) → Walking rows (record { row = c; plus = p.plus; level = suc p.level } ∷ []) m s → Walking rows (record { row = c; plus = p.plus; level = p.level + 1 } ∷ []) m s
   one_on c v = let z : suc p.level ≡ p.level + 1 = omega arith in subst (λ (l : ℕ). Walking rows (record { row = c; plus = p.plus; level = l } ∷ []) m s) z v
@@ -155,9 +156,6 @@ module _ (rows : List Row) (p : Place) (m : List Bool) (s : List ℕ) (h : p.row
 -- a visit as the code makes it
 pub visits : (rows : List Row) → Lawful rows → (p : Place) (ps : List Place) (m m' : List Bool) (s s' : List ℕ) → m' ≡ set m (number_of p) true → s' ≡ cond (get_or m (number_of p) false) s (s ++ (number_of p ∷ [])) → Walking rows (p ∷ ps) m s → Walking rows ps m' s'
 visits rows ok p ps m m' s s' a b w = rw (a, b) (visited rows ok p ps m s w)
-
-pub room_kept : (len len' a b : ℕ) → len' + a ≡ len + b → len ≤ a → len' ≤ b
-room_kept len len' a b e h = omega arith
 
 pub due_within : (rows : List Row) → Lawful rows → (p : Place) (ps : List Place) (m : List Bool) (s : List ℕ) → Walking rows (p ∷ ps) m s → Within p
 due_within rows ok p ps m s w = within rows ok (w.due p here)

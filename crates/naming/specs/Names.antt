@@ -1,18 +1,28 @@
 -- The names that a rule takes, in order, and what they give.
-use Rattle.std.specs.Prelude.{ℕ, suc, ◌-◌, ◌<◌, Bool, true, cond, List, [], ◌∷◌, ◌++◌, map, length, ◌==◌, slice_index_or}
+use Rattle.std.specs.Prelude.{ℕ, suc, ◌-◌, ◌<◌, Bool, true, false, cond, List, [], ◌∷◌, ◌++◌, map, length, ◌==◌, slice_index_or}
 use Rattle.modal.specs.declared.row.Row.{Row}
 use Rattle.modal.specs.declared.row.Row.TheVariants.{False}
 use Rattle.atoms.specs.Clauses.{clause_from}
 use Rattle.atoms.specs.declared.clauses.Clause.{Clause}
 use Rattle.atoms.specs.declared.clauses.Literal.{Literal}
 use Rattle.clausal.specs.Clausal.{shape, negation, defines, modals}
-use Rattle.clausal.specs.Places.{literals_of, name_in}
+use Rattle.clausal.specs.Places.{is_place_of, literals_of, name_in}
+use Rattle.clausal.specs.States.{is_handle_of}
 use Rattle.clausal.specs.declared.modal_clauses.ModalClause.{ModalClause}
 use Rattle.clausal.specs.declared.names.Name.{Name}
 use Rattle.clausal.specs.declared.names.Name.TheVariants.{Free as free, Place as place, Handle as handle}
 use Rattle.clausal.specs.declared.shapes.Shape.{Shape}
+use Rattle.clausal.specs.declared.shapes.Shape.TheVariants.{Plain, Both, Either, All, One}
 use Rattle.naming.specs.Numbers.{place_numbered}
 use Rattle.naming.specs.Order.{takers}
+
+-- do two names stand for the same
+abbrev pub same_name : Name → Name → Bool
+same_name free free = true
+same_name free (place _ _ _) = false
+same_name free (handle _) = false
+same_name (place r k s) x = is_place_of r k s x
+same_name (handle r) x = is_handle_of r x
 
 -- the literal of a row with a sign, over a level's names
 unfoldable pub lit_in : List Name → ℕ → List Row → Bool → ℕ → Literal
@@ -51,3 +61,11 @@ abbrev pub InRule : List Row → Name → Type 0
 InRule rows free = Unit {0}
 InRule rows (place _ k s) = k < length rows
 InRule rows (handle _) = Unit {0}
+
+-- the rows that a shape leads to are the rule's
+abbrev pub ShapeInRule : List Row → Shape → Type 0
+ShapeInRule rows Plain = Unit {0}
+ShapeInRule rows (Both c e) = (c < length rows) × (e < length rows)
+ShapeInRule rows (Either c e) = (c < length rows) × (e < length rows)
+ShapeInRule rows (All c) = c < length rows
+ShapeInRule rows (One c) = c < length rows

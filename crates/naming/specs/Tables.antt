@@ -10,7 +10,8 @@ use Rattle.clausal.specs.Adding.{Fresh, Adds}
 use Rattle.clausal.specs.Clausal.{Writes, start}
 use Rattle.clausal.specs.States.{State, handle_of}
 use Rattle.clausal.specs.declared.faults.AddFault.{AddFault}
-use Rattle.naming.specs.Levels.{level_items, held_rules}
+use Rattle.clausal.specs.declared.modal_clauses.ModalClause.{ModalClause}
+use Rattle.naming.specs.Levels.{level_items, names_at, boxes_at, diamonds_at, held_rules}
 use Rattle.naming.specs.declared.definitions.Definitions.{Definitions}
 use Rattle.naming.specs.declared.table.Added.{Added}
 use Rattle.naming.specs.declared.table.Table.{Table}
@@ -19,9 +20,16 @@ use Rattle.naming.specs.declared.table.Table.{Table}
 abbrev pub rules_in : Table → List (List Row)
 rules_in t = held_rules t.rules
 
+-- the box clauses and the diamond clauses at each level
+abbrev pub boxes_in : Table → ℕ → List ModalClause
+boxes_in t = boxes_at t.levels
+
+abbrev pub diamonds_in : Table → ℕ → List ModalClause
+diamonds_in t = diamonds_at t.levels
+
 -- the session of a table and the entries of an oracle
 abbrev pub view_of : Table → (ℕ → List Entry) → State
-view_of t es = record { rules = rules_in t; names = level_items t.names; boxes = level_items t.boxes; diamonds = level_items t.diamonds; entries = es }
+view_of t es = record { rules = rules_in t; names = names_at t.levels; boxes = boxes_in t; diamonds = diamonds_in t; entries = es }
 
 -- the definitions at each level
 abbrev pub definitions_at : Definitions → ℕ → List Clause

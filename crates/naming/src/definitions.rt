@@ -1,14 +1,26 @@
 // The definitions that a rule gives.
-ghost use Rattle.std.specs.Prelude.{◌≡◌, length};
+ghost use Rattle.naming.specs.Tables.{definitions_at};
+ghost use Rattle.std.specs.Prelude.{◌≡◌};
 
 use crate::counts::LEVELS;
-use crate::writes::LevelClauses;
+use atoms::clauses::Clause;
+use atoms::levels::Level;
+use fixed_list::ArrayVec;
 
-pub(crate) mod methods;
+/// The definitions that one rule gives at one level: at most two for each name.
+pub(crate) type LevelClauses = ArrayVec<Clause, 96>;
 
 /// The definitions of one rule, level by level.
 #[derive(Drop)]
 pub struct Definitions {
     pub(crate) levels: [LevelClauses; LEVELS],
-    ghost eight: { length levels ≡ 8 },
+}
+
+impl Definitions {
+    /// The definitions of the level.
+    pub fn at(&self, level: Level) -> &[Clause]
+        ensures { result.now ≡ definitions_at self.now level }
+    {
+        self.levels[level.index()].as_slice()
+    }
 }

@@ -2,6 +2,7 @@
 ghost use Rattle.std.specs.Prelude.{◌≡◌, ◌<◌};
 ghost use Rattle.naming.specs.Numbers.{number_of, place_numbered};
 
+use atoms::levels::Level;
 use clausal::places::Place;
 
 // How many numbers a level has.
@@ -10,27 +11,25 @@ pub(crate) const LEVEL: usize = 128;
 // How many numbers there are.
 pub(crate) const PLACES: usize = 1024;
 
+// A row below 64 is asked for here, since a place is any row with a sign at a level.
 pub(crate) fn number(place: Place) -> usize
-    requires row { place.row < 64 }
-    requires level { place.level < 8 }
+    requires { place.row < 64 }
     ensures value { result ≡ number_of place }
     ensures small { result < 1024 }
     ensures back { place_numbered result ≡ place }
 {
-    let sign = if place.plus { 0 } else { 1 };
-    usize::from(place.level) * LEVEL + usize::from(place.row) * 2 + sign
+    place.level.index() * LEVEL + usize::from(place.row) * 2 + usize::from(!place.plus)
 }
 
 pub(crate) fn place_of(n: usize) -> Place
     requires { n < 1024 }
     ensures value { result ≡ place_numbered n }
     ensures row { result.row < 64 }
-    ensures level { result.level < 8 }
     ensures back { number_of result ≡ n }
 {
     Place {
         row: (n % LEVEL / 2) as u8,
         plus: n % 2 == 0,
-        level: (n / LEVEL) as u8,
+        level: Level::ALL[n / LEVEL],
     }
 }

@@ -1,34 +1,36 @@
 // The table of a session: the rows of its rules, what each name stands for, its box clauses and its diamond clauses.
-ghost use Rattle.std.specs.Prelude.{◌≡◌, ℕ, true, length};
+ghost use Rattle.std.specs.Prelude.{◌≡◌, ℕ, true};
 ghost use Rattle.clausal.specs.Clausal.{boxed, diamonded, modals_at};
 ghost use Rattle.lists.specs.Lists.{every};
 ghost use Rattle.modal.specs.Rows.{lawful};
-ghost use Rattle.naming.specs.Levels.{level_items, held_rules, named_state};
+ghost use Rattle.naming.specs.Levels.{names_at, boxes_at, diamonds_at, held_rules, named_state};
 ghost use Rattle.naming.specs.Names.{names_from};
 
 use crate::counts::LEVELS;
 use crate::definitions::Definitions;
-use crate::names::Names;
-use crate::writes::ModalClauses;
+use crate::level_table::{LevelTable, take_in};
+use crate::names::atom_of;
+use crate::reached::ReachedRule;
+use atoms::levels::Level;
+use clausal::faults::AddFault;
+use clausal::modal_clauses::ModalClause;
+use clausal::names::Name;
 use fixed_list::ArrayVec;
 use modal::row_list::RowList;
+use modal::rule::Rule;
 
-mod methods;
+// How many rules a session holds.
+const RULES: usize = 16;
 
 /// The clausal form of up to 16 rules, but for their definitions, which an oracle holds.
 #[derive(Drop)]
 pub struct Table {
     rules: ArrayVec<RowList, 16>,
-    names: [Names; LEVELS],
-    boxes: [ModalClauses; LEVELS],
-    diamonds: [ModalClauses; LEVELS],
-    ghost eight: { length names ≡ 8 },
-    ghost eight_boxes: { length boxes ≡ 8 },
-    ghost eight_diamonds: { length diamonds ≡ 8 },
+    levels: [LevelTable; LEVELS],
     ghost rules_lawful: { every lawful (held_rules rules) ≡ true },
-    ghost named: { ((l : ℕ) → level_items names l ≡ names_from 0 (held_rules rules) l) },
-    ghost boxes_given: { ((l : ℕ) → level_items boxes l ≡ modals_at boxed (named_state (held_rules rules) (level_items names)) l) },
-    ghost diamonds_given: { ((l : ℕ) → level_items diamonds l ≡ modals_at diamonded (named_state (held_rules rules) (level_items names)) l) },
+    ghost named: { ((l : ℕ) → names_at levels l ≡ names_from 0 (held_rules rules) l) },
+    ghost boxes_given: { ((l : ℕ) → boxes_at levels l ≡ modals_at boxed (named_state (held_rules rules) (names_at levels)) l) },
+    ghost diamonds_given: { ((l : ℕ) → diamonds_at levels l ≡ modals_at diamonded (named_state (held_rules rules) (names_at levels)) l) },
 }
 
 /// A rule that was taken in: its number, and the definitions that an oracle is to take.
@@ -36,4 +38,85 @@ pub struct Table {
 pub struct Added {
     pub number: u8,
     pub definitions: Definitions,
+}
+
+impl Table {
+    ghost use Rattle.std.specs.Prelude.{◌≡◌, ◌≤◌, length, MatchOption};
+    ghost use Rattle.clausal.specs.Clausal.{Orderly};
+    ghost use Rattle.clausal.specs.Counting.{add_answer};
+    ghost use Rattle.modal.specs.Rules.{listed, rows_of};
+    ghost use Rattle.naming.specs.Tables.{rules_in, boxes_in, diamonds_in, NewTable, number_in, TakesIn, HeldAs, HandleIs};
+
+    /// The table of a new session: no rules.
+    pub fn new() -> Table
+        ensures { NewTable result }
+    {
+        Table {
+            rules: ArrayVec::new(RowList::from(Rule::new())),
+            levels: [LevelTable::new(); LEVELS],
+        }
+    }
+
+    /// Takes in exactly the clausal form of the rule, which is used up, and answers its number with its definitions.
+    /// A refusal leaves the table as it was.
+    pub fn add(&mut self, rule: Rule) -> Result<Added, AddFault>
+        ensures answer { number_in result ≡ add_answer (rules_in self.old) (rows_of rule) }
+        ensures step { TakesIn self.old (rows_of rule) self.new result }
+    {
+        let number = self.rules.len();
+        if number >= RULES {
+            return Err(AddFault::TooManyRules);
+        }
+        let number = number as u8;
+        let reached = ReachedRule::new(number, &rule);
+        if let Some(level) = reached.crowded_level(&self.levels) {
+            return Err(AddFault::TooManyNames(level.number()));
+        }
+        let levels = take_in(&mut self.levels, &reached);
+        let _ = self.rules.push(RowList::from(rule));
+        Ok(Added {
+            number,
+            definitions: Definitions { levels },
+        })
+    }
+
+    /// How many rules are held.
+    pub fn len(&self) -> usize
+        ensures value { result ≡ length (rules_in self.now) }
+        ensures small { result ≤ 16 }
+    {
+        self.rules.len()
+    }
+
+    /// The rows of the rule with the number, if it is held.
+    pub fn rows(&self, number: u8) -> Option<RowList>
+        ensures { MatchOption result (length (rules_in self.now) ≤ number) (λ list. HeldAs (rules_in self.now) number (listed list)) }
+    {
+        self.rules.as_slice().get(usize::from(number)).copied()
+    }
+
+    /// The handle of the rule with the number, if it is held.
+    pub fn handle(&self, number: u8) -> Option<u8>
+        ensures { MatchOption result (length (rules_in self.now) ≤ number) (λ a. HandleIs self.now number a) }
+    {
+        let names = &self.levels[Level::ROOT.index()].names;
+        atom_of(names, Name::Handle(number))
+    }
+
+    /// The box clauses of the level, by rising name.
+    // A call of its own beside that for diamond clauses: of one for both a caller would have to say which.
+    pub fn boxes(&self, level: Level) -> &[ModalClause]
+        ensures value { result.now ≡ boxes_in self.now level }
+        ensures orderly { Orderly level result.now }
+    {
+        self.levels[level.index()].boxes.as_slice()
+    }
+
+    /// The diamond clauses of the level, by rising name.
+    pub fn diamonds(&self, level: Level) -> &[ModalClause]
+        ensures value { result.now ≡ diamonds_in self.now level }
+        ensures orderly { Orderly level result.now }
+    {
+        self.levels[level.index()].diamonds.as_slice()
+    }
 }

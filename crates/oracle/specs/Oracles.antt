@@ -1,5 +1,6 @@
 -- What an oracle's lists of entries are to each of its calls.
-use Rattle.std.specs.Prelude.{◌≡◌, ℕ, Bool, true, cond, List, [], ◌∷◌, ◌++◌, length, Some, None, Option, MatchOption, ◌≢◌, nat_lt}
+use Rattle.std.specs.Prelude.{◌≡◌, ℕ, Bool, true, List, [], ◌∷◌, ◌++◌, length, Option, Result, is_ok, MatchOption, MatchResult, IfErr, ◌≢◌, if◌then◌else◌, nat_lt, ⊤}
+use Rattle.std.specs.Result.{result_ok}
 use Rattle.atoms.specs.Assuming.{Obeys, PartOf}
 use Rattle.atoms.specs.Clauses.{Valuation, makes_all, learnt, definitions}
 use Rattle.atoms.specs.Sets.{has}
@@ -8,8 +9,7 @@ use Rattle.atoms.specs.declared.clauses.Entry.{Entry}
 use Rattle.atoms.specs.declared.clauses.Mark.{Mark}
 use Rattle.atoms.specs.declared.clauses.Mark.TheVariants.{Definition, Learnt}
 use Rattle.atoms.specs.declared.sets.AtomSet.{AtomSet}
-use Rattle.oracle.specs.declared.answers.Solved.{Solved}
-use Rattle.oracle.specs.declared.answers.Solved.TheVariants.{Valuation as valuation, Core}
+use Rattle.oracle.specs.declared.answers.LevelFull.{LevelFull}
 
 -- a list of entries for each level
 abbrev pub Lists : Type 0
@@ -21,10 +21,10 @@ room Definition es = nat_lt (length (definitions es)) 97
 room Learnt es = nat_lt (length (learnt es)) 128
 
 -- Take appends the entry, or refuses where there is no room, and alters nothing else.
-pub record Taken (before after : Lists) (level : ℕ) (e : Entry) (r : Bool) : Type 0 where
+pub record Taken (before after : Lists) (level : ℕ) (e : Entry) (r : Result ⊤ LevelFull) : Type 0 where
   pub others : (k : ℕ) → (k ≢ level) → after k ≡ before k
-  pub here : after level ≡ cond r (before level ++ e ∷ []) (before level)
-  pub when : r ≡ room e.mark (before level)
+  pub here : after level ≡ (if is_ok r then before level ++ e ∷ [] else before level)
+  pub when : is_ok r ≡ room e.mark (before level)
 
 -- Forget keeps the definitions of every level, in their order.
 abbrev pub Forgets : Lists → Lists → Type 0
@@ -48,9 +48,12 @@ pub record Refutes (es : List Entry) (w c : Assumptions) : Type 0 where
   pub part : PartOf c w
   pub unsatisfiable : Unsatisfiable c es
 
+-- what `solve` answers: a valuation, by the atoms that are in, or else a core
+abbrev pub Solved : Type 0
+Solved = Result AtomSet Assumptions
+
 abbrev pub Answers : List Entry → Assumptions → Solved → Type 0
-Answers es w (valuation v) = Satisfies es w (has v)
-Answers es w (Core c) = Refutes es w c
+Answers es w r = MatchResult r (λ s. Satisfies es w (has s)) (λ c. Refutes es w c)
 
 -- Solve alters no entry, and answers for the entries of the level.
 pub record Solves (before after : Lists) (level : ℕ) (w : Assumptions) (r : Solved) : Type 0 where
@@ -59,13 +62,11 @@ pub record Solves (before after : Lists) (level : ℕ) (w : Assumptions) (r : So
 
 -- where the answer is a core, it is all that was assumed
 abbrev pub WholeCore : Assumptions → Solved → Type 0
-WholeCore w (valuation v) = Unit {0}
-WholeCore w (Core c) = c ≡ w
+WholeCore w r = IfErr r (λ c. c ≡ w)
 
 -- the valuation of an answer, if it has one
 abbrev pub valuation_in : Solved → Option AtomSet
-valuation_in (valuation v) = Some v
-valuation_in (Core c) = None
+valuation_in = result_ok
 
 -- what is found for a level's entries: a valuation, or that there is none
 abbrev pub Finds : List Entry → Assumptions → Option AtomSet → Type 0

@@ -1,12 +1,13 @@
 -- The entries that a store holds.
-use Rattle.std.specs.Prelude.{ℕ, List, [], map, take, slice_index_or}
+use Rattle.std.specs.Prelude.{ℕ, List, [], map, slice_index_or}
 use Rattle.atoms.specs.declared.clauses.Entry.{Entry}
+use Rattle.fixed_list.specs.Items.{items_of}
 use Rattle.oracle.specs.declared.entry_list.EntryList.{EntryList}
 use Rattle.oracle.specs.declared.store.Store.{Store}
 
 -- the entries of one level
 abbrev pub held_of : EntryList → List Entry
-held_of r = take r.len r.slots
+held_of r = items_of r.entries
 
 -- the entries of each level, by the lists of the levels
 abbrev pub entries_in : List EntryList → ℕ → List Entry

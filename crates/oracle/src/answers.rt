@@ -1,9 +1,19 @@
 use atoms::assumptions::Assumptions;
 use atoms::sets::AtomSet;
+use std::error::Error;
+use std::fmt;
 
-/// What `solve` answers: a valuation, by the atoms that are in, or a core.
+/// What `solve` answers: a valuation, by the atoms that are in, or else a core.
+pub type Solved = Result<AtomSet, Assumptions>;
+
+/// Why an entry is refused: its level holds as many entries of the mark as it may.
 #[derive(Clone, Copy, PartialEq, Eq, Debug)]
-pub enum Solved {
-    Valuation(AtomSet),
-    Core(Assumptions),
+pub struct LevelFull;
+
+impl fmt::Display for LevelFull {
+    fn fmt<W: fmt::Write>(&self, f: &mut fmt::Formatter<W>) -> fmt::Result {
+        write!(f, "the level holds as many entries of the mark as it may")
+    }
 }
+
+impl Error for LevelFull {}

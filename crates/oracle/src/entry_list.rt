@@ -1,7 +1,9 @@
-ghost use Rattle.std.specs.Prelude.{◌≡◌, ◌≤◌, length, take};
+ghost use Rattle.std.specs.Prelude.{◌≡◌, ◌≤◌, length};
 ghost use Rattle.atoms.specs.Clauses.{definitions, learnt};
+ghost use Rattle.fixed_list.specs.Items.{items_of};
 
 use atoms::clauses::Entry;
+use fixed_list::ArrayVec;
 
 mod methods;
 
@@ -12,18 +14,18 @@ pub const DEFINITIONS: usize = 97;
 pub const LEARNT: usize = 128;
 
 /// Room for both.
-pub(crate) const SLOTS: usize = DEFINITIONS + LEARNT;
+const SLOTS: usize = DEFINITIONS + LEARNT;
 
-/// The entries of one level, in the order in which they came.
+/// The entries of one level, in the order in which they came, and how many of them have each mark.
+// No model: where a type is copied its model gives every field back, and what stands in a free slot is no entry.
 #[derive(Clone, Copy)]
 pub struct EntryList {
-    slots: [Entry; SLOTS],
-    len: usize,
+    entries: ArrayVec<Entry, SLOTS>,
+    // counted as they come, so that a call of `take` need not count them
     defined: usize,
     taught: usize,
-    ghost within: { len ≤ 225 },
-    ghost defines: { length (definitions (take len slots)) ≡ defined },
-    ghost teaches: { length (learnt (take len slots)) ≡ taught },
+    ghost defines: { length (definitions (items_of entries)) ≡ defined },
+    ghost teaches: { length (learnt (items_of entries)) ≡ taught },
     ghost few: { defined ≤ 97 },
     ghost short: { taught ≤ 128 },
 }

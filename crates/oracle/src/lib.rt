@@ -9,7 +9,7 @@
 //! refuses exactly at these limits and never for want of memory.
 #![tactic(auto)]
 
-ghost use Rattle.std.specs.Prelude.{◌≡◌, ℕ, true, List, Decides};
+ghost use Rattle.std.specs.Prelude.{◌≡◌, ℕ, ◌↔◌, List, IsTrue};
 ghost use Rattle.atoms.specs.declared.clauses.Entry.{Entry};
 ghost use Rattle.oracle.specs.Oracles.{Taken, Solves, Forgets, Clears, Satisfiable, Alike};
 
@@ -21,21 +21,23 @@ pub mod answers;
 pub mod entry_list;
 pub mod store;
 
-use answers::Solved;
+use answers::{LevelFull, Solved};
 
 /// An oracle holds a list of entries for each level.
+// Each oracle forwards take, forget and clear to its store: shared code for that needs a second trait for solving, with
+// the order that each solve promises behind a ghost member. So each says of itself what its core is.
 pub trait Oracle {
     ghost entries: { Self → ℕ → List Entry };
 
-    /// Appends the entry at the end of its level's list, and answers whether it was taken. It is refused, and all lists
-    /// are left alone, exactly when the level already holds 97 definitions, or 128 learnt entries, of the entry's mark.
-    fn take(&mut self, level: Level, entry: Entry) -> bool
-        ensures { Taken (entries self.old) (entries self.new) level.number entry result };
+    /// Appends the entry at the end of its level's list. It is refused, and all lists are left alone, exactly when the
+    /// level already holds 97 definitions, or 128 learnt entries, of the entry's mark.
+    fn take(&mut self, level: Level, entry: Entry) -> Result<(), LevelFull>
+        ensures { Taken (entries self.old) (entries self.new) level entry result };
 
     /// A valuation that obeys the assumptions and makes every entry of the level true, or, where there is none, a
     /// core: a part of the assumptions that already rules every valuation out. No entry is altered.
     fn solve(&mut self, level: Level, under: Assumptions) -> Solved
-        ensures { Solves (entries self.old) (entries self.new) level.number under result };
+        ensures { Solves (entries self.old) (entries self.new) level under result };
 
     /// Drops the learnt entries of every level, and leaves the others in their order.
     fn forget(&mut self)
@@ -48,20 +50,17 @@ pub trait Oracle {
 
 /// Whether a valuation obeys the assumptions and makes every entry of the level true.
 pub fn satisfiable<O: Oracle>(oracle: &mut O, level: Level, under: Assumptions) -> bool
-    ensures verdict { Decides result (Satisfiable (O.Oracle.entries oracle.old level.number) under) }
+    ensures verdict { IsTrue result ↔ Satisfiable (O.Oracle.entries oracle.old level) under }
     ensures same { (k : ℕ) → O.Oracle.entries oracle.new k ≡ O.Oracle.entries oracle.old k }
 {
-    match oracle.solve(level, under) {
-        Solved::Valuation(_) => true,
-        Solved::Core(_) => false,
-    }
+    oracle.solve(level, under).is_ok()
 }
 
 /// Whether two oracles give the same verdict. They always do where they hold the same entries at the level. No entry of
 /// either is altered.
 pub fn agree<A: Oracle, B: Oracle>(a: &mut A, b: &mut B, level: Level, under: Assumptions) -> bool
-    ensures verdict { Decides result (Alike (A.Oracle.entries a.old level.number) (B.Oracle.entries b.old level.number) under) }
-    ensures always { A.Oracle.entries a.old level.number ≡ B.Oracle.entries b.old level.number → result ≡ true }
+    ensures verdict { IsTrue result ↔ Alike (A.Oracle.entries a.old level) (B.Oracle.entries b.old level) under }
+    ensures always { A.Oracle.entries a.old level ≡ B.Oracle.entries b.old level → IsTrue result }
     ensures same_first { (k : ℕ) → A.Oracle.entries a.new k ≡ A.Oracle.entries a.old k }
     ensures same_second { (k : ℕ) → B.Oracle.entries b.new k ≡ B.Oracle.entries b.old k }
 {

@@ -2,6 +2,7 @@ ghost use Rattle.std.specs.Prelude.{◌≡◌};
 ghost use Rattle.oracle.specs.Oracles.{Taken, Forgets, Clears};
 ghost use Rattle.oracle.specs.Stores.{entries_of};
 
+use crate::answers::LevelFull;
 use crate::entry_list::EntryList;
 use atoms::clauses::Entry;
 use atoms::levels::{LEVELS, Level};
@@ -24,22 +25,19 @@ impl Store {
         }
     }
 
-    /// Appends the entry at the end of its level's list, unless there is no room for one more of its mark, and answers
-    /// whether it was taken.
-    pub fn take(&mut self, level: Level, entry: Entry) -> bool
-        ensures { Taken (entries_of self.old) (entries_of self.new) level.number entry result }
+    /// Appends the entry at the end of its level's list, unless there is no room for one more of its mark.
+    pub fn take(&mut self, level: Level, entry: Entry) -> Result<(), LevelFull>
+        ensures { Taken (entries_of self.old) (entries_of self.new) level entry result }
     {
-        let number = level.number();
-        let at = number as usize;
-        self.levels[at].take(entry)
+        self.levels[level.index()].take(entry)
     }
 
     /// Drops the learnt entries of every level, and leaves the definitions in their order.
     pub fn forget(&mut self)
         ensures { Forgets (entries_of self.old) (entries_of self.new) }
     {
-        for i in 0..COUNT {
-            self.levels[i].forget();
+        for level in &mut self.levels {
+            level.forget();
         }
     }
 
@@ -52,10 +50,8 @@ impl Store {
 
     /// The entries of the level, in their order.
     pub fn entries(&self, level: Level) -> &[Entry]
-        ensures { result.now ≡ entries_of self.now level.number }
+        ensures { result.now ≡ entries_of self.now level }
     {
-        let number = level.number();
-        let place = number as usize;
-        self.levels[place].held()
+        self.levels[level.index()].held()
     }
 }

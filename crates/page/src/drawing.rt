@@ -1,4 +1,6 @@
 // A tree in words: a line for each world, under its parent, with its row's number and its letters.
+ghost use Rattle.std.specs.Prelude.{◌<◌, length};
+
 use atoms::sets::{ATOMS, AtomSet};
 use sheet::row::SheetRow;
 use std::fmt;
@@ -9,26 +11,33 @@ pub struct Drawing<'a>(pub &'a [SheetRow]);
 
 impl fmt::Display for Drawing<'_> {
     fn fmt<W: fmt::Write>(&self, f: &mut fmt::Formatter<W>) -> fmt::Result {
-        let tree = self.0;
-        if tree.is_empty() {
-            return Ok(());
+        match self.0.first() {
+            Some(root) => world(self.0, 0, root, f),
+            None => Ok(()),
         }
-        world(tree, 0, f)
     }
 }
 
 // The world and the worlds under it, each further in than its parent.
-fn world<W: fmt::Write>(tree: &[SheetRow], row: usize, f: &mut fmt::Formatter<W>) -> fmt::Result {
-    let Some(here) = tree.get(row) else {
-        return Ok(());
-    };
-    indent(here.level, f)?;
-    write!(f, "world {row}:")?;
-    letters(here.letters, f)?;
-    for next in row + 1..tree.len() {
-        if tree[next].parent == row as u64 {
-            world(tree, next, f)?;
-        }
+fn world<W: fmt::Write>(
+    tree: &[SheetRow],
+    number: usize,
+    row: &SheetRow,
+    f: &mut fmt::Formatter<W>,
+) -> fmt::Result
+    requires { number < length tree.now }
+{
+    indent(row.level, f)?;
+    write!(f, "world {number}:")?;
+    letters(row.letters, f)?;
+    // As the evaluation of a sheet finds them: no function can answer such a chain.
+    let children = tree
+        .iter()
+        .enumerate()
+        .skip(number + 1)
+        .filter(|(_, child)| child.parent == number as u64);
+    for (number, child) in children {
+        world(tree, number, child, f)?;
     }
     Ok(())
 }
@@ -44,10 +53,8 @@ fn letters<W: fmt::Write>(set: AtomSet, f: &mut fmt::Formatter<W>) -> fmt::Resul
     if set.is_empty() {
         return writeln!(f, " no letters");
     }
-    for a in 0..ATOMS {
-        if set.member(a) {
-            write!(f, " {a}")?;
-        }
+    for a in (0..ATOMS).filter(|a| set.member(*a)) {
+        write!(f, " {a}")?;
     }
     writeln!(f, "")
 }

@@ -2,9 +2,10 @@
 ghost use Rattle.std.specs.Prelude.{◌≡◌};
 ghost use Rattle.page.specs.declared.faults.PageFault.TheVariants as fault;
 
-use modal::faults::ReadFault;
+use modal::faults::{Fault, ReadFault};
 use sheet::faults::SheetFault;
 use std::alloc::AllocFailed;
+use std::error::Error;
 use std::fmt;
 
 /// Why a text is no page, with the byte of the text at which that is found.
@@ -28,6 +29,8 @@ impl fmt::Display for TextFault {
     }
 }
 
+impl Error for TextFault {}
+
 /// Why a page has no verdict, by the layer that refused it.
 #[derive(Clone, Copy, Debug)]
 pub enum PageFault {
@@ -42,21 +45,27 @@ impl fmt::Display for PageFault {
     fn fmt<W: fmt::Write>(&self, f: &mut fmt::Formatter<W>) -> fmt::Result {
         match *self {
             PageFault::Text(fault) => write!(f, "the text, {fault}"),
-            PageFault::Rule(fault) => {
-                let number = fault.number();
-                let detail = fault.detail();
-                write!(f, "{number}, detail {detail}: the rule, {fault}")
-            }
-            PageFault::Sheet(fault) => {
-                let number = fault.number();
-                let detail = fault.detail();
-                write!(f, "{number}, detail {detail}: the sheet, {fault}")
-            }
+            PageFault::Rule(fault) => refusal(fault, "rule", f),
+            PageFault::Sheet(fault) => refusal(fault, "sheet", f),
             PageFault::Memory => write!(f, "there is no memory for the page"),
         }
     }
 }
 
+impl Error for PageFault {}
+
+// The number and the detail of a refusal, what was refused, and why.
+fn refusal<F: Fault + Copy, W: fmt::Write>(
+    fault: F,
+    layer: &str,
+    f: &mut fmt::Formatter<W>,
+) -> fmt::Result {
+    let number = fault.number();
+    let detail = fault.detail();
+    write!(f, "{number}, detail {detail}: the {layer}, {fault}")
+}
+
+// These are written out, for a clause of `check` names the fault that a `?` makes.
 impl From<TextFault> for PageFault {
     ghost from_gives = { λ f r. r ≡ fault.Text f };
 

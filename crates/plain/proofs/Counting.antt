@@ -1,5 +1,5 @@
 -- The parts of a set of atoms in counting order.
-use Rattle.std.proofs.Common.{◌≡◌, ℕ, zero, suc, ◌+◌, ◌-◌, ◌*◌, ◌/◌, ◌%◌, ◌^◌, ◌<◌, ◌≤◌, Bool, true, false, cond, not, ◌&&◌, eqb, sym, refl, ap, ◌∙◌, arith}
+use Rattle.std.proofs.Common.{◌≡◌, ℕ, zero, suc, ◌+◌, ◌-◌, ◌*◌, ◌/◌, ◌%◌, ◌^◌, ◌<◌, ◌≤◌, Bool, true, false, not, ◌&&◌, sym, refl, ap, ◌∙◌, arith}
 use native.Mathlib.Nat.{pow-succ'}
 use lib.Bits.{bit_and, bit_or, and_step, and_le_l, or_disjoint}
 use Rattle.std.proofs.lemmas.Bool.Decides.{nat_tests}
@@ -12,14 +12,7 @@ part_half u m p i h = sym (has_suc m i) ∙ p (suc i) (has_suc u i ∙ h)
 
 -- the lowest digit of a part
 part_low : (u m : ℕ) → Part u m → u % 2 ≤ m % 2
-part_low u m p =
-    let f : eqb (u % 2) 1 ≡ true → eqb (m % 2) 1 ≡ true = λ e. sym (has_zero m) ∙ p 0 (has_zero u ∙ e) in
-    low (u % 2) (m % 2) (omega arith) f
-  where
-    low : (a b : ℕ) → a < 2 → (eqb a 1 ≡ true → eqb b 1 ≡ true) → a ≤ b
-    low zero b l f = omega arith
-    low (suc zero) b l f = let e : eqb b 1 ≡ true = f refl in grind (arith, nat_tests)
-    low (suc (suc a)) b l f = absurd (let z : ⊥ = omega arith in z)
+part_low u m p = grind (arith, nat_tests, has_zero u, has_zero m, p 0)
 
 pub part_le : (k u m : ℕ) → u < 2 ^ k → Part u m → u ≤ m
 part_le zero u m l p = omega arith
@@ -96,38 +89,4 @@ filled v m lv lm p =
     (λ i. has_minus v m i lv lm ∙ off (bit v i) (bit m i) (p i)))
   where
     off : (x y : Bool) → (x ≡ true → y ≡ true) → x && not y ≡ false
-    off true y h = let e = h refl in grind (arith, nat_tests)
-    off false y h = refl
-
--- the number whose atoms below k pass the test
-pub gathered : ℕ → (ℕ → Bool) → ℕ
-gathered zero f = 0
-gathered (suc k) f = cond (f 0) 1 0 + 2 * gathered k (λ i. f (suc i))
-
-pub gathered_lt : (k : ℕ) (f : ℕ → Bool) → gathered k f < 2 ^ k
-unfolding gathered
-gathered_lt zero f = omega arith
-gathered_lt (suc k) f =
-    let q = pow-succ' 2 k in
-    let h : gathered k (λ i. f (suc i)) < 2 ^ k = gathered_lt k (λ i. f (suc i)) in
-    let d : cond (f 0) 1 0 ≤ 1 = digit (f 0) in
-    omega arith
-  where
-    digit : (b : Bool) → cond b 1 0 ≤ 1
-    digit true = omega arith
-    digit false = omega arith
-
-pub gathered_bit : (k : ℕ) (f : ℕ → Bool) (i : ℕ) → i < k → bit (gathered k f) i ≡ f i
-unfolding gathered
-gathered_bit zero f i l = absurd (let z : ⊥ = omega arith in z)
-gathered_bit (suc k) f zero l = has_zero _ ∙ low (f 0) (gathered k (λ i. f (suc i)))
-  where
-    low : (b : Bool) (n : ℕ) → eqb ((cond b 1 0 + 2 * n) % 2) 1 ≡ b
-    low true n = grind (arith, nat_tests)
-    low false n = grind (arith, nat_tests)
-gathered_bit (suc k) f (suc i) l =
-    has_suc _ i ∙ ap (λ (n : ℕ). bit n i) (rest (f 0) (gathered k (λ j. f (suc j)))) ∙ gathered_bit k (λ j. f (suc j)) i (omega arith)
-  where
-    rest : (b : Bool) (n : ℕ) → (cond b 1 0 + 2 * n) / 2 ≡ n
-    rest true n = omega arith
-    rest false n = omega arith
+    off x y h = grind (arith, nat_tests, h)

@@ -17,7 +17,7 @@ use atoms::clauses::{Entry, named};
 use atoms::levels::Level;
 use atoms::sets::AtomSet;
 use oracle::Oracle;
-use oracle::answers::Solved;
+use oracle::answers::{LevelFull, Solved};
 use oracle::store::Store;
 
 // The next part of `mask` in counting order, after `part`: adding one to `part` with all bits outside the mask set
@@ -26,10 +26,10 @@ fn next_part(part: AtomSet, mask: AtomSet) -> Option<AtomSet>
     requires { Part part.bits mask.bits }
     ensures { MatchOption result (part.bits ≡ mask.bits) (λ w. NextPart part.bits mask.bits w.bits) }
 {
-    if part.bits == mask.bits {
+    if part == mask {
         return None;
     }
-    Some(AtomSet::from_bits((part.bits | !mask.bits) + 1 & mask.bits))
+    Some(AtomSet::from((part.bits | !mask.bits) + 1 & mask.bits))
 }
 
 // The first valuation in counting order that makes every entry true.
@@ -48,13 +48,8 @@ fn count(entries: &[Entry], under: Assumptions) -> Option<AtomSet>
         let valuation = under.within.union(counted);
         for entry in entries {
             if !entry.clause.holds(valuation) {
-                match next_part(counted, free) {
-                    Some(more) => {
-                        counted = more;
-                        continue 'next;
-                    }
-                    None => return None,
-                }
+                counted = next_part(counted, free)?;
+                continue 'next;
             }
         }
         return Some(valuation);
@@ -81,19 +76,16 @@ impl Plain {
 impl Oracle for Plain {
     ghost entries = { plain_entries };
 
-    fn take(&mut self, level: Level, entry: Entry) -> bool {
+    fn take(&mut self, level: Level, entry: Entry) -> Result<(), LevelFull> {
         self.store.take(level, entry)
     }
 
     fn solve(&mut self, level: Level, under: Assumptions) -> Solved
-        ensures solves { Solves (plain_entries self.old) (plain_entries self.new) level.number under result }
+        ensures solves { Solves (plain_entries self.old) (plain_entries self.new) level under result }
         ensures core { WholeCore under result }
-        ensures order { Counted (plain_entries self.old level.number) under (valuation_in result) }
+        ensures order { Counted (plain_entries self.old level) under (valuation_in result) }
     {
-        match count(self.store.entries(level), under) {
-            Some(valuation) => Solved::Valuation(valuation),
-            None => Solved::Core(under),
-        }
+        count(self.store.entries(level), under).ok_or(under)
     }
 
     fn forget(&mut self) {

@@ -3,17 +3,17 @@
 
 #[cfg(test)]
 mod tests {
-    use modal::faults::{ReadFault, RowStart, WriteFault};
+    use modal::faults::{Fault, ReadFault, RowStart, WriteFault};
+    use modal::row_list::RowList;
     use modal::rule::Rule;
     use std::test::Fail;
 
     // What reading the bytes answers: the number and the detail of the refusal, or the number of rows.
     fn read(bytes: &[u8]) -> Result<usize, (u8, u64)> {
         let mut rule = Rule::new();
-        match rule.read(bytes) {
-            Ok(()) => Ok(rule.rows().len()),
-            Err(fault) => Err((fault.number(), fault.detail())),
-        }
+        rule.read(bytes)
+            .map_err(|fault| (fault.number(), fault.detail()))?;
+        Ok(rule.rows().len())
     }
 
     // A letter under eight boxes, each on the row before.
@@ -54,6 +54,17 @@ mod tests {
         assert_eq!(rt; read(&[]), Err((1, 0)));
         assert_eq!(rt; read(&[1, 8]), Err((2, 1)));
         assert_eq!(rt; read(&[1, 4, 0]), Err((3, 1)));
+    }
+
+    #[test]
+    fn rows_are_a_rule_again(rt: HostRuntime) -> Result<(), Fail> {
+        let mut rule = Rule::default();
+        assert_eq!(rt; rule.rows().len(), 1);
+        rule.read(&[2, 0, 6, 0])?;
+        let list = RowList::from(rule);
+        let again = Rule::try_from(list)?;
+        assert_eq!(rt; again.rows(), list.rows());
+        Ok(())
     }
 
     #[test]

@@ -1,9 +1,9 @@
 -- Why the answers of the search are right.
-use Rattle.std.proofs.Common.{◌≡◌, ℕ, ◌<◌, Bool, true, false, cond, not, ◌&&◌, ◌||◌, eqb, ltb, List, ◌∷◌, Some, None, Option, sym, refl, ap, ◌∙◌, subst, arith}
-use Rattle.std.proofs.lemmas.Bool.{and_from, or_left}
+use Rattle.std.proofs.Common.{◌≡◌, ℕ, ◌<◌, Bool, true, false, not, List, ◌∷◌, Some, None, Option, refl, ap, ◌∙◌, subst, arith}
+use Rattle.std.proofs.lemmas.Bool.{and_from, or_left, and_parts}
 use Rattle.std.proofs.lemmas.Bool.Decides.{nat_tests}
 use Rattle.atoms.specs.Assuming.{Obeys, settled, Joined}
-use Rattle.atoms.specs.Clauses.{Valuation, obeys_one, makes, makes_all, names}
+use Rattle.atoms.specs.Clauses.{Valuation, obeys_one, makes, makes_all}
 use Rattle.atoms.specs.Sets.{has}
 use Rattle.atoms.specs.declared.assumptions.Assumptions.{Assumptions}
 use Rattle.atoms.specs.declared.clauses.Entry.{Entry}
@@ -12,7 +12,6 @@ use Rattle.atoms.specs.declared.sets.AtomSet.{AtomSet}
 use Rattle.atoms.proofs.Below.{count_less}
 use Rattle.atoms.proofs.Obeying.{Follows, obeys_follows, follows_obeys, clash_never, follows_less, follows_more}
 use Rattle.atoms.proofs.Restricting.{restricted, restricted_all}
-use Rattle.lists.proofs.Truth.{and_left, and_right, true_false}
 use Rattle.oracle.specs.Oracles.{Finds, Satisfies, Unsatisfiable}
 use Rattle.search.specs.Judging.{FirstJudged, none, here, later, Judged, Forces}
 use Rattle.search.specs.Searches.{Searched, clash, conflict, follow, full, try_in, try_out, Started, SearchedFrom, Apart, Full, inside, outside, undecided_in}
@@ -23,12 +22,8 @@ use Rattle.search.proofs.Clausewise.{conflicts_false, forces_true, forces_free, 
 -- one atom more decided, and one less is left
 pub undecided_less : (w u : Assumptions) (x : Literal) → x.atom < 64 → Joined w x u → settled w x.atom ≡ false → undecided_in u < undecided_in w
 undecided_less w u x l j s =
-    let e = count_less 64 (λ a. not (settled u a)) (λ a. not (settled w a)) x.atom
-    (λ i. fewer (has w.within i) (has w.without i) (has u.within i) (has u.without i) x.holds x.atom i l (j.ins i) (j.outs i)) l (ap not s) in
+    let e = count_less 64 (λ a. not (settled u a)) (λ a. not (settled w a)) x.atom (λ i. grind (arith, nat_tests, j.ins i, j.outs i, l)) l (ap not s) in
     omega arith
-  where
-    fewer : (a b c d h : Bool) (x i : ℕ) → x < 64 → c ≡ a || (h && (eqb x i && ltb i 64)) → d ≡ b || (not h && (eqb x i && ltb i 64)) → not (c || d) ≡ not (a || b) && not (eqb x i)
-    fewer a b c d h x i l p q = grind (arith, nat_tests)
 
 -- what a trail tells of the valuations that follow it and make every entry true, and of itself
 Tells : Assumptions → List Entry → Status → Type 0
@@ -44,14 +39,14 @@ first_tells none = λ apart all. refl
 first_tells {w = w} (here {e = e} {es = es} {s = s} ne j) = at s ne j
   where
     at : (s : Status) → (s ≡ Open → ⊥) → Judged w e.clause s → Tells w (e ∷ es) s
-    at Conflict ne j = λ v f m. conflicts_false w e.clause j v f (and_left (makes v e.clause) (makes_all v es) m)
-    at (Forced x) ne j = λ v f m. forces_true w e.clause x j v f (and_left (makes v e.clause) (makes_all v es) m)
+    at Conflict ne j = λ v f m. conflicts_false w e.clause j v f (and_parts (makes v e.clause) (makes_all v es) m).0
+    at (Forced x) ne j = λ v f m. forces_true w e.clause x j v f (and_parts (makes v e.clause) (makes_all v es) m).0
     at Open ne j = absurd (ne refl)
 first_tells {w = w} (later {e = e} {es = es} {s = s} j r) = at s (first_tells r)
   where
     at : (s : Status) → Tells w es s → Tells w (e ∷ es) s
-    at Conflict t = λ v f m. t v f (and_right (makes v e.clause) (makes_all v es) m)
-    at (Forced x) t = λ v f m. t v f (and_right (makes v e.clause) (makes_all v es) m)
+    at Conflict t = λ v f m. t v f (and_parts (makes v e.clause) (makes_all v es) m).1
+    at (Forced x) t = λ v f m. t v f (and_parts (makes v e.clause) (makes_all v es) m).1
     at Open t = λ apart all. and_from (makes (has w.within) e.clause) (makes_all (has w.within) es) (leaves_true w e.clause apart all j) (t apart all)
 
 -- the literal that the entries force is of an undecided atom
@@ -90,12 +85,9 @@ found_both es w u t a None ju jt f g = λ v o m. at v (obeys_follows v w o) m (v
 -- when all is decided the trail is the valuation
 found_full : (es : List Entry) (w : Assumptions) → Apart w → makes_all (has w.within) es ≡ true → Satisfies es w (has w.within)
 found_full es w apart m = record {
-  obeyed = follows_obeys (has w.within) w (record { ins = λ i h. h; outs = λ i h. out (has w.within i) (has w.without i) (apart i) h });
+  obeyed = follows_obeys (has w.within) w (record { ins = λ i h. h; outs = λ i h. grind (arith, nat_tests, apart i) });
   made = m;
 }
-  where
-    out : (a b : Bool) → a && b ≡ false → b ≡ true → a ≡ false
-    out a b e f = grind (arith, nat_tests)
 
 -- The answer of a search is right: a valuation that obeys and makes every entry true, or there is none.
 pub searched_finds : {es : List Entry} {w : Assumptions} {r : Option AtomSet} → Searched es w r → Finds es w r
@@ -111,26 +103,13 @@ searched_finds {es = es} (try_out {w = w} {u = u} {t = t} {r = r} a apart j low 
 spared : (es : List Entry) (under w : Assumptions) → Started es under w → Unsatisfiable w es → Unsatisfiable under es
 spared es under w st never v o m =
     never (restricted es under v) (follows_obeys _ w (record {
-      ins = λ i h. stays (names es i) (has under.within i) (has under.without i) (v i) (sym (st.within i) ∙ h);
-      outs = λ i h. goes (names es i) (has under.within i) (has under.without i) (ltb i 64) (v i) (sym (st.without i) ∙ h) (f.ins i) (f.outs i);
+      ins = λ i h. grind (arith, nat_tests, st.within i);
+      outs = λ i h. grind (arith, nat_tests, st.without i, f.ins i, f.outs i);
     }))
     (restricted_all es under v f m)
   where
     f : Follows v under
     f = obeys_follows v under o
-
-    stays : (n a o v : Bool) → a ≡ true → cond (n && not (a || o)) v a ≡ true
-    stays true true o v e = refl
-    stays false true o v e = refl
-    stays n false o v e = absurd (true_false e refl)
-
-    goes : (n a o l v : Bool) → (o || (l && not (n || a))) ≡ true → (a ≡ true → v ≡ true) → (o ≡ true → v ≡ false) → cond (n && not (a || o)) v a ≡ false
-    goes n true true l v h i u = absurd (true_false (i refl) (u refl))
-    goes true false true l v h i u = refl
-    goes false false true l v h i u = refl
-    goes true a false l v h i u = absurd (true_false (and_right l false h) refl)
-    goes false true false l v h i u = absurd (true_false (and_right l false h) refl)
-    goes false false false l v h i u = refl
 
 started_less : (es : List Entry) (under w : Assumptions) → Started es under w → (v : Valuation) → Obeys v w → Obeys v under
 started_less es under w st v o =

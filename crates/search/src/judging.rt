@@ -10,13 +10,8 @@ use atoms::sets::AtomSet;
 fn sole(set: AtomSet) -> Option<u8>
     ensures { MatchOption result ((a : ℕ) → Sole set a → ⊥) (λ a. Sole set a) }
 {
-    let Some(atom) = set.lowest() else {
-        return None;
-    };
-    if set.remove(atom).is_empty() {
-        return Some(atom);
-    }
-    None
+    let atom = set.lowest()?;
+    set.remove(atom).is_empty().then_some(atom)
 }
 
 // What the trail makes of a clause.
@@ -31,25 +26,25 @@ fn judge(clause: Clause, trail: Assumptions) -> Status
     let decided = trail.within.union(trail.without);
     let plain = clause.plain.difference(decided);
     let negated = clause.negated.difference(decided);
-    if negated.is_empty() {
-        if plain.is_empty() {
-            return Status::Conflict;
-        }
-        if let Some(atom) = sole(plain) {
-            return Status::Forced(Literal { atom, holds: true });
-        }
-    } else if plain.is_empty() {
-        if let Some(atom) = sole(negated) {
-            return Status::Forced(Literal { atom, holds: false });
-        }
+    match (plain.is_empty(), negated.is_empty()) {
+        (true, true) => Status::Conflict,
+        (false, true) => sole(plain).map_or(
+            Status::Open,
+            |atom| Status::Forced(Literal { atom, holds: true }),
+        ),
+        (true, false) => sole(negated).map_or(
+            Status::Open,
+            |atom| Status::Forced(Literal { atom, holds: false }),
+        ),
+        (false, false) => Status::Open,
     }
-    Status::Open
 }
 
 // What the trail makes of the first entry whose clause is not open.
 pub(crate) fn examine(entries: &[Entry], trail: Assumptions) -> Status
     ensures { FirstJudged trail entries.now result }
 {
+    // A match, since a status is no Option that `?` or `find_map` could take.
     for entry in entries {
         match judge(entry.clause, trail) {
             Status::Open => {}

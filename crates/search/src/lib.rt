@@ -15,7 +15,7 @@ use atoms::assumptions::Assumptions;
 use atoms::clauses::Entry;
 use atoms::levels::Level;
 use oracle::Oracle;
-use oracle::answers::Solved;
+use oracle::answers::{LevelFull, Solved};
 use oracle::store::Store;
 
 mod judging;
@@ -44,21 +44,18 @@ impl Searcher {
 impl Oracle for Searcher {
     ghost entries = { searcher_entries };
 
-    fn take(&mut self, level: Level, entry: Entry) -> bool {
+    fn take(&mut self, level: Level, entry: Entry) -> Result<(), LevelFull> {
         self.store.take(level, entry)
     }
 
     fn solve(&mut self, level: Level, under: Assumptions) -> Solved
-        ensures solves { Solves (searcher_entries self.old) (searcher_entries self.new) level.number under result }
+        ensures solves { Solves (searcher_entries self.old) (searcher_entries self.new) level under result }
         ensures core { WholeCore under result }
-        ensures order { SearchedFrom (searcher_entries self.old level.number) under (valuation_in result) }
+        ensures order { SearchedFrom (searcher_entries self.old level) under (valuation_in result) }
     {
         let entries = self.store.entries(level);
         let mut trail = start(entries, under);
-        match search(entries, &mut trail) {
-            Some(valuation) => Solved::Valuation(valuation),
-            None => Solved::Core(under),
-        }
+        search(entries, &mut trail).ok_or(under)
     }
 
     fn forget(&mut self) {

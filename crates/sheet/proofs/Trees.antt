@@ -1,14 +1,16 @@
 -- The rows that a sheet shows, and the Kripke model that they are.
-use Rattle.std.proofs.Common.{◌≡◌, ℕ, zero, suc, ◌+◌, ◌<◌, ◌≤◌, Bool, true, false, cond, ◌&&◌, eqb, ltb, List, [], ◌∷◌, ◌++◌, length, get_or, take, drop, Ok, Err, Result, refl, ap, ◌∙◌, subst, ⊎_elim, add-zero, zero-add, add-one, arith, MatchResult}
-use Rattle.std.proofs.lemmas.List.{drop_more, take_more, length-take-le, get_or-take, get_or_append_left, get_or_push, length_push}
-use Rattle.std.proofs.lemmas.Bool.{ne_eqb, lt-ltb, and_from, cases_lt, cases_Bool}
+use Rattle.std.proofs.Common.{◌≡◌, ℕ, zero, suc, ◌+◌, ◌<◌, ◌≤◌, Bool, true, false, cond, ◌&&◌, eqb, ltb, List, [], ◌∷◌, ◌++◌, length, get_or, drop, Ok, Err, Result, refl, ap, ◌∙◌, subst, ⊎_elim, add-zero, zero-add, add-one, arith, MatchResult, map, filter, sym}
+use Rattle.std.specs.List.{enumerate_from}
+use Rattle.std.proofs.Math.ListN.{get_or-map}
+use Rattle.std.proofs.lemmas.List.{drop_all, length-map, drop_more}
+use Rattle.std.proofs.lemmas.Bool.{lt-ltb, and_from, cases_Bool}
 use Rattle.std.proofs.lemmas.Bool.Decides.{nat_tests}
+use Rattle.std.proofs.lemmas.Grind.{common_steps}
 use Rattle.lists.specs.Lists.{every}
 use Rattle.modal.specs.Kripke.{World, world}
-use Rattle.atoms.specs.Sets.{has, has_only_letters}
+use Rattle.atoms.specs.Sets.{has}
 use Rattle.sheet.specs.Sheets.{no_row, successors_of, worlds_from, worlds_of, Earlier, is_blank_row, row_stands, rows_or_none, shown_from, shown_rows, ShownTree}
 use Rattle.sheet.specs.declared.faults.SheetFault.{SheetFault}
-use Rattle.sheet.specs.declared.faults.SheetFault.TheVariants.{Unlawful}
 use Rattle.sheet.specs.declared.row.SheetRow.{SheetRow}
 
 world_from : (t : List SheetRow) (n : ℕ) (rs : List SheetRow) (i : ℕ) → i < length rs
@@ -23,68 +25,61 @@ world_from t n (r ∷ rs) (suc i) l =
 pub world_at : (t : List SheetRow) (i : ℕ) → i < length t → world (worlds_of t) i ≡ record { letters = has (get_or t i no_row).letters; successors = successors_of i 0 t }
 world_at t i l = rw zero-add at (world_from t 0 t i l)
 
--- one row more of the scan for successors
-pub successors_more : (t : List SheetRow) (w j : ℕ) → 0 < j → j < length t
-    → successors_of w j (drop j t) ≡ cond (eqb (get_or t j no_row).parent w) (j ∷ successors_of w (j + 1) (drop (j + 1) t)) (successors_of w (j + 1) (drop (j + 1) t))
-successors_more t w j h l =
-    ap (successors_of w j) (drop_more t j no_row l)
-    ∙ ap (λ (b : Bool). cond (eqb (get_or t j no_row).parent w && b) (j ∷ successors_of w (suc j) (drop (j + 1) t)) (successors_of w (suc j) (drop (j + 1) t))) (lt-ltb 0 j h)
-    ∙ both (eqb (get_or t j no_row).parent w)
-  where
-    both : (b : Bool) → cond (b && true) (j ∷ successors_of w (suc j) (drop (j + 1) t)) (successors_of w (suc j) (drop (j + 1) t))
-        ≡ cond b (j ∷ successors_of w (j + 1) (drop (j + 1) t)) (successors_of w (j + 1) (drop (j + 1) t))
-    both true = rw add-one refl
-    both false = rw add-one refl
+-- rows that are no successors are passed over
+passed : (w n m : ℕ) (rs : List SheetRow) → ((i : ℕ) → i < m → i < length rs → (eqb (get_or rs i no_row).parent w && ltb 0 (n + i)) ≡ false) → successors_of w n rs ≡ successors_of w (n + m) (drop m rs)
+passed w n zero rs h = rw add-zero refl
+passed w n (suc m) [] h = refl
+passed w n (suc m) (r ∷ rs) h =
+    let none : (eqb r.parent w && ltb 0 n) ≡ false = rw add-zero at (h 0 (omega arith) (omega arith)) in
+    let e : (i : ℕ) → suc n + i ≡ n + suc i = λ i. omega arith in
+    rw none (rw (e m) at (passed w (suc n) m rs (λ i a b. rw (e i) (h (suc i) (omega arith) (omega arith)))))
 
--- row 0 is nobody's successor
-past_root : (t : List SheetRow) (w : ℕ) → 0 < length t → successors_of w 0 t ≡ successors_of w 1 (drop 1 t)
-past_root [] w h = absurd (omega arith)
-past_root (r ∷ rs) w h = no_root (eqb r.parent w)
-  where
-    no_root : (b : Bool) → cond (b && false) (0 ∷ successors_of w 1 rs) (successors_of w 1 rs) ≡ successors_of w 1 rs
-    no_root true = refl
-    no_root false = refl
+-- row 0 is nobody's successor, and no row up to number w has w as its parent; so the successors of a world are found after it
+later_successors : (t : List SheetRow) (w : ℕ) → Earlier t → w < length t → (world (worlds_of t) w).successors ≡ successors_of w (w + 1) (drop (w + 1) t)
+later_successors t w h l =
+    let no_child : (i : ℕ) → i < w + 1 → i < length t → (eqb (get_or t i no_row).parent w && ltb 0 (0 + i)) ≡ false = λ i a b. grind (arith, nat_tests, h i) in
+    ap (λ (x : World). x.successors) (world_at t w l) ∙ rw zero-add at (passed w 0 (w + 1) t no_child)
 
--- no row up to number w has w as its parent
-skip : (t : List SheetRow) (w n : ℕ) → Earlier t → n ≤ w → w < length t → successors_of w 0 t ≡ successors_of w (n + 1) (drop (n + 1) t)
-skip t w zero h a b = past_root t w (omega arith)
-skip t w (suc n) h a b =
-    let e : suc n + 1 ≡ n + 1 + 1 = omega arith in
-    let no_parent = ne_eqb (get_or t (n + 1) no_row).parent w (λ q. omega (arith, h (n + 1) (omega arith) (omega arith))) in
-    skip t w n h (omega arith) b ∙ successors_more t w (n + 1) (omega arith) (omega arith) ∙ rw (no_parent, e) refl
+-- the numbers of the rows that have w as their parent
+abbrev pub child_of : ℕ → ℕ × SheetRow → Bool
+child_of w p = eqb p.1.parent w
 
--- so the successors of a world are found after it
-pub later_successors : (t : List SheetRow) (w : ℕ) → Earlier t → w < length t → (world (worlds_of t) w).successors ≡ successors_of w (w + 1) (drop (w + 1) t)
-later_successors t w h l = ap (λ (x : World). x.successors) (world_at t w l) ∙ skip t w w h (omega arith) l
+numbered : (w n : ℕ) (rs : List SheetRow) → 0 < n → successors_of w n rs ≡ map (λ (p : ℕ × SheetRow). p.0) (filter (child_of w) (enumerate_from n rs))
+numbered w n [] h = refl
+numbered w n (r ∷ rs) h =
+    let more = numbered w (n + 1) rs (omega arith) in
+    rw (lt-ltb 0 n h, ← add-one n) (grind (arith, nat_tests))
 
--- a row after the root, with letters only and an earlier parent, stands if its level is the parent's plus 1, at most 7
-pub stands_later : (s : List SheetRow) (i : ℕ) → i < length s → (i ≡ 0 → ⊥) → has_only_letters (get_or s i no_row).letters ≡ true → (get_or s i no_row).parent < i
-    → row_stands (take i s) (get_or s i no_row) ≡ (ltb (get_or s (get_or s i no_row).parent no_row).level 7 && eqb (get_or s i no_row).level ((get_or s (get_or s i no_row).parent no_row).level + 1))
-stands_later s i l pos only before =
-    let up = (get_or s i no_row).parent in
-    let long : length (take i s) ≡ i = length-take-le i s (omega arith) in
-    let same : get_or (take i s) up no_row ≡ get_or s up no_row = get_or-take i s up no_row before in
-    rw (long, same) (grind (arith, nat_tests))
+drop_numbered : (m n : ℕ) (rs : List SheetRow) → drop m (enumerate_from n rs) ≡ enumerate_from (n + m) (drop m rs)
+drop_numbered zero n rs = rw add-zero refl
+drop_numbered (suc m) n [] = refl
+drop_numbered (suc m) n (r ∷ rs) = let e : n + 1 + m ≡ n + suc m = omega arith in rw e at (drop_numbered m (n + 1) rs)
 
--- one row more of a sheet
-pub shown_more : (s : List SheetRow) (i : ℕ) → i < length s
-    → shown_from (take i s) (drop i s)
-    ≡ cond (is_blank_row (get_or s i no_row)) (rows_or_none (take i s)) (cond (row_stands (take i s) (get_or s i no_row)) (shown_from (take (i + 1) s) (drop (i + 1) s)) (Err (Unlawful i)))
-shown_more s i l =
-    let long = length-take-le i s (omega arith) in
-    ap (shown_from (take i s)) (drop_more s i no_row l) ∙ rw (take_more s i no_row l)
-    (ap (λ (n : ℕ). cond (is_blank_row (get_or s i no_row)) (rows_or_none (take i s)) (cond (row_stands (take i s) (get_or s i no_row)) (shown_from (take i s ++ get_or s i no_row ∷ []) (drop (i + 1) s)) (Err (Unlawful n)))) long)
+-- the successors of a world are the later rows that have it as their parent
+pub successors_found : (t : List SheetRow) (w : ℕ) → Earlier t → w < length t → (world (worlds_of t) w).successors ≡ map (λ (p : ℕ × SheetRow). p.0) (filter (child_of w) (drop (w + 1) (enumerate_from 0 t)))
+successors_found t w h l = later_successors t w h l ∙ numbered w (w + 1) (drop (w + 1) t) (omega arith) ∙ ap (λ (ps : List (ℕ × SheetRow)). map (λ (p : ℕ × SheetRow). p.0) (filter (child_of w) ps)) (let e : 0 + (w + 1) ≡ w + 1 = omega arith in sym (rw e at (drop_numbered (w + 1) 0 t)))
+
+module _ (t : List SheetRow) (w : ℕ) (h : Earlier t) (l : w < length t) where
+  abbrev found : List (ℕ × SheetRow)
+  found = filter (child_of w) (drop (w + 1) (enumerate_from 0 t))
+
+  -- the n-th row that is found is the next successor
+  pub successor_next : (n : ℕ) (p : ℕ × SheetRow) → n < length found → p ≡ get_or found n p → drop n (world (worlds_of t) w).successors ≡ p.0 ∷ drop (n + 1) (world (worlds_of t) w).successors
+  successor_next n p m e =
+      let firsts = map (λ (q : ℕ × SheetRow). q.0) found in
+      let at : get_or firsts n p.0 ≡ p.0 = get_or-map (λ (q : ℕ × SheetRow). q.0) found n p ∙ sym (ap (λ (q : ℕ × SheetRow). q.0) e) in
+      rw (successors_found t w h l) (drop_more firsts n p.0 (omega (arith, length-map found (λ (q : ℕ × SheetRow). q.0))) ∙ ap (λ (k : ℕ). k ∷ drop (n + 1) firsts) at)
+
+  -- after the last row that is found there is no successor more
+  pub successors_end : (n : ℕ) → n ≡ length found → drop n (world (worlds_of t) w).successors ≡ []
+  successors_end n e = rw (successors_found t w h l) (drop_all n (map (λ (q : ℕ × SheetRow). q.0) found) (omega (arith, length-map found (λ (q : ℕ × SheetRow). q.0))))
 
 some_is_ok : (before t : List SheetRow) → rows_or_none before ≡ Ok t → (before ≡ t) × (0 < length t)
 some_is_ok [] t e = let z : ◌≡◌ {A = ℕ} 0 1 = cc in absurd (omega arith)
 some_is_ok (r ∷ rs) t e = let q : r ∷ rs ≡ t = cc in (q, omega (arith, ap length q))
 
 earlier_push : (before : List SheetRow) (r : SheetRow) → Earlier before → row_stands before r ≡ true → Earlier (before ++ r ∷ [])
-earlier_push before r h e k a b =
-    ⊎_elim
-    (λ m. rw (get_or_append_left before (r ∷ []) no_row k m) (h k a m))
-    (λ m. let q : length before ≡ k = omega (arith, length_push before r) in rw (get_or_push before r no_row k q) (grind (arith, nat_tests, e)))
-    (cases_lt k (length before))
+earlier_push before r h e k a b = grind (arith, nat_tests, common_steps, h k a, e)
 
 shown_earlier : (before rs t : List SheetRow) → Earlier before → shown_from before rs ≡ Ok t → Earlier t × (0 < length t)
 shown_earlier before [] t h e = let p = some_is_ok before t e in (subst Earlier p.0 h, p.1)

@@ -1,5 +1,5 @@
 -- What is known of a rule's rows at a world and over its successors while its truth is worked out.
-use Rattle.std.specs.Prelude.{◌≡◌, ℕ, ◌+◌, ◌<◌, Bool, true, false, not, ◌&&◌, ◌||◌, List, slice_index_or}
+use Rattle.std.specs.Prelude.{◌≡◌, ℕ, ◌+◌, ◌<◌, Bool, true, false, not, ◌&&◌, ◌||◌, List, length, slice_index_or}
 use Rattle.lists.specs.Lists.{every, some}
 use Rattle.modal.specs.Kripke.{World, world, meets}
 use Rattle.modal.specs.Rows.{forms, formula_at}
@@ -11,14 +11,9 @@ use Rattle.sheet.specs.declared.evaluation.Over.{Over}
 
 -- how many of the first rows a row looks at in the successors
 abbrev pub row_looked_at : Row → ℕ
-row_looked_at False = 0
-row_looked_at True = 0
-row_looked_at (Letter a) = 0
-row_looked_at (Not c) = 0
-row_looked_at (And c e) = 0
-row_looked_at (Or c e) = 0
 row_looked_at (Box c) = c + 1
 row_looked_at (Diamond c) = c + 1
+row_looked_at _ = 0
 
 -- a row's truth, from the letters of the world, the earlier rows that are true there and those over its successors
 abbrev pub row_truth : Row → AtomSet → AtomSet → Over → Bool
@@ -35,25 +30,20 @@ row_truth (Diamond c) letters known over = has over.any c
 abbrev pub true_at : List Row → ℕ → List World → ℕ → Bool
 true_at rows j ws w = meets (formula_at (forms rows) j) ws w
 
--- the set has just those of the first rows that are true at world w
-abbrev pub TrueRows : List Row → ℕ → List World → ℕ → AtomSet → Type 0
-TrueRows rows count ws w s = (j : ℕ) → j < count → has s j ≡ true_at rows j ws w
+-- the set has just those of the rows that are true at world w
+abbrev pub TrueRows : List Row → List World → ℕ → AtomSet → Type 0
+TrueRows rows ws w s = (j : ℕ) → j < length rows → has s j ≡ true_at rows j ws w
 
--- of the first rows, just those that are true at every successor of world w, and at some
-pub record OverRows (rows : List Row) (count : ℕ) (ws : List World) (w : ℕ) (over : Over) : Type 0 where
-  pub everywhere : (j : ℕ) → j < count → has over.all j ≡ every (true_at rows j ws) (world ws w).successors
-  pub somewhere : (j : ℕ) → j < count → has over.any j ≡ some (true_at rows j ws) (world ws w).successors
+-- of the rows, just those that are true at every successor of world w, and at some
+pub record OverRows (rows : List Row) (ws : List World) (w : ℕ) (over : Over) : Type 0 where
+  pub everywhere : (j : ℕ) → j < length rows → has over.all j ≡ every (true_at rows j ws) (world ws w).successors
+  pub somewhere : (j : ℕ) → j < length rows → has over.any j ≡ some (true_at rows j ws) (world ws w).successors
 
 -- what the row looks at in the successors is known
 abbrev pub SeesRow : List Row → List World → ℕ → Over → Row → Type 0
-SeesRow rows ws w over False = Unit {0}
-SeesRow rows ws w over True = Unit {0}
-SeesRow rows ws w over (Letter a) = Unit {0}
-SeesRow rows ws w over (Not c) = Unit {0}
-SeesRow rows ws w over (And c e) = Unit {0}
-SeesRow rows ws w over (Or c e) = Unit {0}
 SeesRow rows ws w over (Box c) = has over.all c ≡ every (true_at rows c ws) (world ws w).successors
 SeesRow rows ws w over (Diamond c) = has over.any c ≡ some (true_at rows c ws) (world ws w).successors
+SeesRow rows ws w over _ = Unit {0}
 
-abbrev pub Sees : List Row → ℕ → List World → ℕ → Over → Type 0
-Sees rows count ws w over = (j : ℕ) → j < count → SeesRow rows ws w over (slice_index_or rows j False)
+abbrev pub Sees : List Row → List World → ℕ → Over → Type 0
+Sees rows ws w over = (j : ℕ) → j < length rows → SeesRow rows ws w over (slice_index_or rows j False)

@@ -1,7 +1,8 @@
 // What was wrong with a sheet.
-ghost use Rattle.std.specs.Prelude.{◌≡◌};
 ghost use Rattle.sheet.specs.Faults.{sheet_refusal};
 
+use modal::faults::Fault;
+use std::error::Error;
 use std::fmt;
 
 /// Why a sheet shows no tree.
@@ -13,20 +14,16 @@ pub enum SheetFault {
     Unlawful(u64),
 }
 
-impl SheetFault {
-    /// The number of the refusal.
-    pub fn number(self) -> u8
-        ensures { result ≡ (sheet_refusal self).number }
-    {
+impl Fault for SheetFault {
+    ghost refusal = { sheet_refusal };
+
+    fn number(self) -> u8 {
         match self {
             SheetFault::NoRoot | SheetFault::Unlawful(_) => 9,
         }
     }
 
-    /// The detail of the refusal.
-    pub fn detail(self) -> u64
-        ensures { result ≡ (sheet_refusal self).detail }
-    {
+    fn detail(self) -> u64 {
         match self {
             SheetFault::NoRoot => 0,
             SheetFault::Unlawful(row) => row,
@@ -42,3 +39,5 @@ impl fmt::Display for SheetFault {
         }
     }
 }
+
+impl Error for SheetFault {}

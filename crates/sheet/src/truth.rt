@@ -2,61 +2,55 @@
 //
 // A rule's rows are a graph, in which a row can be reached on very many ways, so the truth of one row is never asked
 // alone: a world answers for all its first rows at once, and is asked once, for its parent.
-ghost use Rattle.std.specs.Prelude.{◌≡◌, ◌<◌, ◌≤◌, true, length};
-ghost use Rattle.modal.specs.Rows.{lawful};
+ghost use Rattle.std.specs.Prelude.{◌≡◌};
 ghost use Rattle.modal.specs.Rules.{rows_of};
-ghost use Rattle.sheet.specs.Sheets.{worlds_of, shown_rows, Earlier, truth_on};
+ghost use Rattle.sheet.specs.Sheets.{worlds_of, shown_rows, truth_on};
 ghost use Rattle.sheet.specs.Evaluation.{TrueRows, OverRows};
 
-use crate::evaluation::{Over, RowSet, rows_true, successor_rows};
+use crate::evaluation::{Evaluation, Over, RowSet};
 use crate::faults::SheetFault;
 use crate::row::SheetRow;
 use crate::tree::shown;
-use modal::row::Row;
 use modal::rule::Rule;
 
-// The first `count` rows that are true at the world.
-#[cycle(truth_at_truth_over)]
-fn truth_at(tree: &[SheetRow], rows: &[Row], count: usize, world: usize) -> RowSet
-    requires some { 0 < count }
-    requires within { count ≤ length rows.now }
-    requires lawful { lawful rows.now ≡ true }
-    requires world { world < length tree.now }
-    requires tree { Earlier tree.now }
-    ensures { TrueRows rows.now count (worlds_of tree.now) world result }
-{
-    let needed = successor_rows(rows, count);
-    let over = if needed == 0 {
-        Over {
-            all: RowSet::NONE,
-            any: RowSet::NONE,
-        }
-    } else {
-        truth_over(tree, rows, needed, world)
-    };
-    rows_true(tree, rows, count, world, over)
-}
+impl Evaluation<'_> {
+    // The rows that are true at the world.
+    #[cycle(truth_at_truth_over)]
+    fn truth_at(&self) -> RowSet
+        ensures { TrueRows self.now.rows.now (worlds_of self.now.tree.now) self.now.world result }
+    {
+        let needed = self.successor_rows();
+        let over = if needed == 0 {
+            Over {
+                all: RowSet::NONE,
+                any: RowSet::NONE,
+            }
+        } else {
+            self.first(needed).truth_over()
+        };
+        self.rows_true(over)
+    }
 
-// Of the first `count` rows, those that are true at every successor of the world, and those that are true at some.
-#[cycle(truth_at_truth_over)]
-fn truth_over(tree: &[SheetRow], rows: &[Row], count: usize, world: usize) -> Over
-    requires some { 0 < count }
-    requires within { count ≤ length rows.now }
-    requires lawful { lawful rows.now ≡ true }
-    requires world { world < length tree.now }
-    requires tree { Earlier tree.now }
-    ensures { OverRows rows.now count (worlds_of tree.now) world result }
-{
-    let mut all = RowSet::NONE.complement();
-    let mut any = RowSet::NONE;
-    for j in world + 1..tree.len() {
-        if tree[j].parent == world as u64 {
-            let there = truth_at(tree, rows, count, j);
+    // The rows that are true at every successor of the world, and those that are true at some.
+    #[cycle(truth_at_truth_over)]
+    fn truth_over(&self) -> Over
+        ensures { OverRows self.now.rows.now (worlds_of self.now.tree.now) self.now.world result }
+    {
+        let mut all = RowSet::NONE.complement();
+        let mut any = RowSet::NONE;
+        let successors = self
+            .tree
+            .iter()
+            .enumerate()
+            .skip(self.world + 1)
+            .filter(|(_, row)| row.parent == self.world as u64);
+        for (world, _) in successors {
+            let there = self.at(world).truth_at();
             all = all.intersection(there);
             any = any.union(there);
         }
+        Over { all, any }
     }
-    Over { all, any }
 }
 
 /// Whether the root of the tree that the sheet shows meets the rule.
@@ -65,6 +59,11 @@ pub fn truth(sheet: &[SheetRow], rule: &Rule) -> Result<bool, SheetFault>
 {
     let tree = shown(sheet)?;
     let rows = rule.rows();
-    let met = truth_at(tree, rows, rows.len(), 0);
+    let met = Evaluation {
+        tree,
+        world: 0,
+        rows,
+    }
+    .truth_at();
     Ok(met.member((rows.len() - 1) as u8))
 }

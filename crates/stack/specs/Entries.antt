@@ -1,5 +1,6 @@
 -- What a stack holds.
 use Rattle.std.specs.Prelude.{◌-◌, List, take}
+use Rattle.std.specs.Borrow.{GName}
 use Rattle.stack.specs.declared.Stack.{Stack}
 
 -- what stands in the slots, taken or not
@@ -13,3 +14,7 @@ entries_of s = take s.len (slots_of s)
 -- the entries below the top
 abbrev pub below_top : {T : Type 0} → Stack T → List T
 below_top s = take (s.len - 1) (slots_of s)
+
+-- the name of the slice that was lent, which gets the slots back when the stack goes
+abbrev pub lender_of : {T : Type 0} → Stack T → GName
+lender_of s = s.slots.ghost_name

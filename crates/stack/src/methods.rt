@@ -1,5 +1,5 @@
-ghost use Rattle.std.specs.Prelude.{◌≡◌, ◌+◌, ◌-◌, [], ◌∷◌, ◌++◌, length, is_some, if◌then◌else◌, ◌==◌, nat_lt};
-ghost use Rattle.stack.specs.Entries.{entries_of, below_top, slots_of};
+ghost use Rattle.std.specs.Prelude.{◌≡◌, ◌+◌, ◌-◌, ◌≤◌, [], ◌∷◌, ◌++◌, length, is_some, if◌then◌else◌, ◌==◌, nat_lt, Ok, Err};
+ghost use Rattle.stack.specs.Entries.{entries_of, below_top, slots_of, lender_of};
 ghost use Rattle.std.specs.Option.{option_to_list};
 
 use crate::Stack;
@@ -8,52 +8,52 @@ impl<'a, T: Copy> Stack<'a, T> {
     /// The empty stack over the slots.
     pub fn new(slots: &'a mut [T]) -> Stack<'a, T>
         ensures entries { entries_of result ≡ [] }
-        ensures len { result.len ≡ 0 }
+        ensures len { length (entries_of result) ≡ 0 }
         ensures same { slots_of result ≡ slots.old }
-        ensures lent { result.slots.ghost_name ≡ slots.entry.ghost_name }
+        ensures lent { lender_of result ≡ slots.entry.ghost_name }
     {
         Stack { slots, len: 0 }
     }
 
-    /// How many entries the stack has.
+    /// How many entries the stack has, at most as many as slots.
     pub fn len(&self) -> usize
         ensures count { result ≡ length (entries_of self.now) }
-        ensures len { result ≡ self.now.len }
+        ensures small { result ≤ length (slots_of self.now) }
     {
         self.len
     }
 
     /// Whether the stack has no entry.
     pub fn is_empty(&self) -> bool
-        ensures { result ≡ (self.now.len == 0) }
+        ensures { result ≡ (length (entries_of self.now) == 0) }
     {
         self.len == 0
     }
 
-    /// Puts `x` on top and answers true; false, and nothing altered, if every slot is taken.
-    pub fn push(&mut self, x: T) -> bool
-        ensures taken { result ≡ nat_lt self.old.len (length (slots_of self.old)) }
-        ensures entries { entries_of self.new ≡ (if result then entries_of self.old ++ x ∷ [] else entries_of self.old) }
-        ensures len { self.new.len ≡ (if result then self.old.len + 1 else self.old.len) }
+    /// Puts `x` on top. If every slot is taken, `x` is handed back, and nothing is altered.
+    pub fn push(&mut self, x: T) -> Result<(), T>
+        ensures answer { result ≡ (if nat_lt (length (entries_of self.old)) (length (slots_of self.old)) then Ok tt else Err x) }
+        ensures entries { entries_of self.new ≡ (if nat_lt (length (entries_of self.old)) (length (slots_of self.old)) then entries_of self.old ++ x ∷ [] else entries_of self.old) }
+        ensures len { length (entries_of self.new) ≡ (if nat_lt (length (entries_of self.old)) (length (slots_of self.old)) then length (entries_of self.old) + 1 else length (entries_of self.old)) }
         ensures room { length (slots_of self.new) ≡ length (slots_of self.old) }
-        ensures lent { self.new.slots.ghost_name ≡ self.old.slots.ghost_name }
+        ensures lent { lender_of self.new ≡ lender_of self.old }
     {
         if self.len < self.slots.len() {
             self.slots[self.len] = x;
             self.len += 1;
-            true
+            Ok(())
         } else {
-            false
+            Err(x)
         }
     }
 
     /// Takes the top off and answers it; none if the stack is empty.
     pub fn pop(&mut self) -> Option<T>
         ensures entries { entries_of self.old ≡ entries_of self.new ++ option_to_list result }
-        ensures some { is_some result ≡ nat_lt 0 self.old.len }
-        ensures len { self.new.len ≡ self.old.len - 1 }
+        ensures some { is_some result ≡ nat_lt 0 (length (entries_of self.old)) }
+        ensures len { length (entries_of self.new) ≡ length (entries_of self.old) - 1 }
         ensures room { length (slots_of self.new) ≡ length (slots_of self.old) }
-        ensures lent { self.new.slots.ghost_name ≡ self.old.slots.ghost_name }
+        ensures lent { lender_of self.new ≡ lender_of self.old }
     {
         if self.len == 0 {
             return None;
@@ -65,7 +65,7 @@ impl<'a, T: Copy> Stack<'a, T> {
     /// The top; none if the stack is empty.
     pub fn top(&self) -> Option<T>
         ensures entries { entries_of self.now ≡ below_top self.now ++ option_to_list result }
-        ensures some { is_some result ≡ nat_lt 0 self.now.len }
+        ensures some { is_some result ≡ nat_lt 0 (length (entries_of self.now)) }
     {
         if self.len == 0 {
             return None;
@@ -74,18 +74,18 @@ impl<'a, T: Copy> Stack<'a, T> {
         Some(slots[self.len - 1])
     }
 
-    /// Puts `x` in the place of the top and answers true; false if the stack is empty.
-    pub fn replace_top(&mut self, x: T) -> bool
-        ensures taken { result ≡ nat_lt 0 self.old.len }
-        ensures entries { entries_of self.new ≡ (if result then below_top self.old ++ x ∷ [] else entries_of self.old) }
-        ensures len { self.new.len ≡ self.old.len }
+    /// Puts `x` in the place of the top. If the stack is empty, `x` is handed back.
+    pub fn replace_top(&mut self, x: T) -> Result<(), T>
+        ensures answer { result ≡ (if nat_lt 0 (length (entries_of self.old)) then Ok tt else Err x) }
+        ensures entries { entries_of self.new ≡ (if nat_lt 0 (length (entries_of self.old)) then below_top self.old ++ x ∷ [] else entries_of self.old) }
+        ensures len { length (entries_of self.new) ≡ length (entries_of self.old) }
         ensures room { length (slots_of self.new) ≡ length (slots_of self.old) }
-        ensures lent { self.new.slots.ghost_name ≡ self.old.slots.ghost_name }
+        ensures lent { lender_of self.new ≡ lender_of self.old }
     {
         if self.len == 0 {
-            return false;
+            return Err(x);
         }
         self.slots[self.len - 1] = x;
-        true
+        Ok(())
     }
 }

@@ -1,18 +1,16 @@
-ghost use Rattle.std.specs.Prelude.{◌≡◌, ◌≤◌, true, [], ◌∷◌, ◌++◌, length, take, if◌then◌else◌};
+ghost use Rattle.std.specs.Prelude.{◌≡◌, [], ◌∷◌, ◌++◌, is_ok, if◌then◌else◌};
 ghost use Rattle.atoms.specs.Clauses.{definitions};
 ghost use Rattle.oracle.specs.Oracles.{room};
 ghost use Rattle.oracle.specs.Stores.{held_of};
 
-use super::{DEFINITIONS, EntryList, LEARNT, SLOTS};
+use super::{DEFINITIONS, EntryList, LEARNT};
+use crate::answers::LevelFull;
 use atoms::clauses::{Clause, Entry, Mark};
-use atoms::sets::AtomSet;
+use fixed_list::ArrayVec;
 
 // What stands in a slot that holds no entry.
 const BLANK: Entry = Entry {
-    clause: Clause {
-        plain: AtomSet::NONE,
-        negated: AtomSet::NONE,
-    },
+    clause: Clause::NONE,
     mark: Mark::Definition,
 };
 
@@ -21,8 +19,7 @@ impl EntryList {
         ensures { held_of result ≡ [] }
     {
         EntryList {
-            slots: [BLANK; SLOTS],
-            len: 0,
+            entries: ArrayVec::new(BLANK),
             defined: 0,
             taught: 0,
         }
@@ -31,7 +28,7 @@ impl EntryList {
     pub(crate) fn held(&self) -> &[Entry]
         ensures { result.now ≡ held_of self.now }
     {
-        &self.slots[0..self.len]
+        self.entries.as_slice()
     }
 
     // Whether there is room for one more entry of the mark.
@@ -44,53 +41,33 @@ impl EntryList {
         }
     }
 
-    // Appends the entry, which is always taken: the caller has seen that there is room.
-    fn push(&mut self, entry: Entry)
-        requires { room entry.mark (held_of self.old) ≡ true }
-        ensures { held_of self.new ≡ held_of self.old ++ entry ∷ [] }
+    // Appends the entry if there is room for one more of its mark.
+    pub(crate) fn take(&mut self, entry: Entry) -> Result<(), LevelFull>
+        ensures items { held_of self.new ≡ (if is_ok result then held_of self.old ++ entry ∷ [] else held_of self.old) }
+        ensures when { is_ok result ≡ room entry.mark (held_of self.old) }
     {
-        self.slots[self.len] = entry;
-        self.len += 1;
+        if !self.has_room(entry.mark) {
+            return Err(LevelFull);
+        }
+        self.entries.push(entry).unwrap();
         match entry.mark {
             Mark::Definition => self.defined += 1,
             Mark::Learnt => self.taught += 1,
         }
+        Ok(())
     }
 
-    // Appends the entry if there is room for one more of its mark, and answers whether it was taken.
-    pub(crate) fn take(&mut self, entry: Entry) -> bool
-        ensures items { held_of self.new ≡ (if result then held_of self.old ++ entry ∷ [] else held_of self.old) }
-        ensures when { result ≡ room entry.mark (held_of self.old) }
-    {
-        let taken = self.has_room(entry.mark);
-        if taken {
-            self.push(entry);
-        }
-        taken
-    }
-
+    // Drops the learnt entries, and leaves the definitions in their order.
     pub(crate) fn forget(&mut self)
         ensures { held_of self.new ≡ definitions (held_of self.old) }
     {
-        let len = self.len;
-        self.len = compact(&mut self.slots, len);
+        let mut kept = ArrayVec::new(BLANK);
+        for entry in self.held() {
+            if entry.mark == Mark::Definition {
+                kept.push(*entry).unwrap();
+            }
+        }
+        self.entries = kept;
         self.taught = 0;
     }
-}
-
-// Moves the definitions among the first entries to the front, in their order, and says how many they are.
-fn compact(slots: &mut [Entry], len: usize) -> usize
-    requires { len ≤ length slots.old }
-    ensures kept { take result slots.new ≡ definitions (take len slots.old) }
-    ensures less { result ≤ len }
-{
-    let mut next = 0;
-    for i in 0..len {
-        let entry = slots[i];
-        if let Mark::Definition = entry.mark {
-            slots[next] = entry;
-            next += 1;
-        }
-    }
-    next
 }

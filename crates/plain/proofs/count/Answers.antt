@@ -1,6 +1,8 @@
-use Rattle.std.proofs.Common.{◌≡◌, ℕ, ◌-◌, ◌^◌, ◌<◌, ◌≤◌, Bool, true, false, not, ◌&&◌, ◌||◌, List, sym, refl, ap, ◌∙◌, subst, arith}
+use Rattle.std.proofs.Common.{◌≡◌, ℕ, ◌-◌, ◌^◌, ◌<◌, ◌≤◌, true, not, ◌&&◌, List, sym, ap, ◌∙◌, subst, arith}
+use Rattle.std.proofs.lemmas.Bool.{both_ways}
+use Rattle.std.proofs.lemmas.Bool.Decides.{nat_tests}
 use Rattle.std.proofs.lemmas.List.{take_all}
-use Rattle.atoms.specs.Clauses.{Valuation, makes, makes_all, names}
+use Rattle.atoms.specs.Clauses.{Valuation, makes_all, names}
 use Rattle.atoms.specs.Sets.{has}
 use Rattle.atoms.specs.declared.assumptions.Assumptions.{Assumptions}
 use Rattle.atoms.specs.declared.clauses.Entry.{Entry}
@@ -8,7 +10,6 @@ use Rattle.atoms.specs.declared.sets.AtomSet.{AtomSet}
 use Rattle.atoms.proofs.Members.{has_none}
 use Rattle.atoms.proofs.Making.{blank}
 use Rattle.atoms.proofs.Obeying.{Follows, obeys_follows, follows_obeys, clash_never}
-use Rattle.lists.proofs.Truth.{every_take, true_false}
 use Rattle.oracle.specs.Oracles.{Unsatisfiable}
 use Rattle.plain.specs.Counts.{Part, counted_over, NextPart}
 use Rattle.plain.proofs.Counting.{part_le}
@@ -25,24 +26,12 @@ returns-then-clashes c =
     record { finds = k; order = k }
 
 pub next-init : goal.next-init
-next-init c = (λ i h. absurd (true_false h (has_none i)), (λ u lu p l. absurd (let z : ⊥ = omega arith in z)), omega arith)
+next-init c = (λ i h. absurd (both_ways _ (has_none i) h), (λ u lu p l. absurd (let z : ⊥ = omega arith in z)), omega arith)
 
 -- the free atoms
 free_is : (es : List Entry) (w : Assumptions) (n m f : AtomSet) → ((i : ℕ) → has n i ≡ names es i) → ((i : ℕ) → has m i ≡ has n i && not (has w.within i))
     → ((i : ℕ) → has f i ≡ has m i && not (has w.without i)) → (i : ℕ) → has f i ≡ counted_over es w i
-free_is es w n m f a b d i =
-    d i ∙ ap (λ (t : Bool). t && not (has w.without i)) (b i ∙ ap (λ (t : Bool). t && not (has w.within i)) (a i)) ∙ both (names es i) (has w.within i) (has w.without i)
-  where
-    both : (n a o : Bool) → ((n && not a) && not o) ≡ (n && not (a || o))
-    both true true o = refl
-    both true false o = refl
-    both false a o = refl
-
-same : (u v f : AtomSet) → u ≡ v → Part v.bits f.bits → Part u.bits f.bits
-same u v f e p = subst (λ (s : AtomSet). Part s.bits f.bits) (sym e) p
-
-pub next_part-requires : goal.next_part-requires
-next_part-requires c = same c.loop-entry.counted c.next.counted c.difference-free.result c.loop-entry.invariant.1 c.next.invariant.0
+free_is es w n m f a b d i = grind (arith, nat_tests, a i, b i, d i)
 
 falls : (u v m f : AtomSet) → u ≡ v → f.bits < 2 ^ 64 → m.bits < 2 ^ 64 → NextPart u.bits f.bits m.bits → f.bits - m.bits < f.bits - v.bits
 falls u v m f e lf lm n =
@@ -52,7 +41,7 @@ falls u v m f e lf lm n =
     omega arith
 
 pub next-smaller : goal.next-smaller
-next-smaller c = falls c.loop-entry.counted c.next.counted c.in-Some.more c.difference-free.result c.loop-entry.invariant.1 (omega arith) (omega arith) c.in-Some.ensures
+next-smaller c = falls c.loop-entry.counted c.next.counted c.in_ok-counted.counted c.difference-free.result c.loop-entry.invariant.1 (omega arith) (omega arith) c.in_ok-counted.ensures
 
 least : (u v f m : AtomSet) → u ≡ v → NextPart u.bits f.bits m.bits → (n : ℕ) → n < 2 ^ 64 → Part n f.bits → v.bits < n → m.bits ≤ n
 least u v f m e h = subst (λ (s : AtomSet). (n : ℕ) → n < 2 ^ 64 → Part n f.bits → s.bits < n → m.bits ≤ n) e h.least
@@ -60,32 +49,25 @@ least u v f m e h = subst (λ (s : AtomSet). (n : ℕ) → n < 2 ^ 64 → Part n
 pub next-preserved : goal.next-preserved
 next-preserved c =
     let v : AtomSet = c.next.counted in (
-      c.in-Some.ensures.part,
-      fail_more c.args.entries.now c.args.under c.difference-free.result.bits v.bits c.in-Some.more.bits c.next.invariant.1
+      c.in_ok-counted.ensures.part,
+      fail_more c.args.entries.now c.args.under c.difference-free.result.bits v.bits c.in_ok-counted.counted.bits c.next.invariant.1
           (failed_here c.args.entries.now c.args.under v.bits c.union-valuation.result c.loop-entry.entry-index blank c.loop-entry-test.true
           c.union-valuation.ensures c.if-not-holds.ensures)
-          (least c.loop-entry.counted v c.difference-free.result c.in-Some.more c.loop-entry.invariant.1 c.in-Some.ensures),
+          (least c.loop-entry.counted v c.difference-free.result c.in_ok-counted.counted c.loop-entry.invariant.1 c.in_ok-counted.ensures),
       omega arith,
     )
 
-pub returns-in-None : goal.returns-in-None
-returns-in-None c =
+pub returns-in_err-counted : goal.returns-in_err-counted
+returns-in_err-counted c =
     let v : AtomSet = c.next.counted in
     let f = free_is c.args.entries.now c.args.under c.named.result c.difference.result c.difference-free.result c.named.ensures c.difference.ensures c.difference-free.ensures in
-    let last : v.bits ≡ c.difference-free.result.bits = ap (λ (s : AtomSet). s.bits) (sym c.loop-entry.invariant.1) ∙ c.in-None.ensures in
+    let last : v.bits ≡ c.difference-free.result.bits = ap (λ (s : AtomSet). s.bits) (sym c.loop-entry.invariant.1) ∙ c.in_err-counted.ensures in
     let k : Unsatisfiable c.args.under c.args.entries.now =
     unsatisfiable c.args.under c.args.entries.now (complete c.args.entries.now c.args.under c.difference-free.result.bits f
     (fail_all c.args.entries.now c.args.under c.difference-free.result.bits v.bits last c.next.invariant.1
     (failed_here c.args.entries.now c.args.under v.bits c.union-valuation.result c.loop-entry.entry-index blank c.loop-entry-test.true
     c.union-valuation.ensures c.if-not-holds.ensures))) in
-    record { finds = k; order = k }
-
-pub loop-entry-preserved : goal.loop-entry-preserved
-loop-entry-preserved c = (
-  every_take (λ (e : Entry). makes (has c.union-valuation.result) e.clause) c.args.entries.now c.loop-entry.entry-index blank c.loop-entry-test.true
-      c.loop-entry.invariant.0 (sym c.if-not-holds.ensures),
-  c.loop-entry.invariant.1,
-)
+    rw c.from_residual.ensures (record { finds = k; order = k })
 
 pub returns-in-next : goal.returns-in-next
 returns-in-next c =

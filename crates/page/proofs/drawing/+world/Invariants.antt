@@ -2,4 +2,4 @@ use Rattle.std.proofs.Common.{◌-◌, length}
 use Rattle.page.proofs.drawing.+world.Given as goal
 
 abbrev pub decreases-world : goal.decreases-world
-decreases-world g l = length l.tree.now - l.row
+decreases-world g l = length l.tree.now - l.number

@@ -6,9 +6,6 @@ use Rattle.search.specs.Judging.{FirstJudged, none, here, later}
 use Rattle.search.specs.declared.status.Status.TheVariants.{Open}
 use Rattle.search.proofs.judging.examine.Goals as goal
 
-pub loop-entry-init : goal.loop-entry-init
-loop-entry-init c s h = h
-
 -- the entries from place i on, by the first of them
 split : (es : List Entry) (i : ℕ) → i < length es → drop i es ≡ get_or es i blank ∷ drop (i + 1) es
 split es i l = rw (add-one, drop-cons es i blank)

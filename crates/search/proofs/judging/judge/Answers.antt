@@ -1,4 +1,4 @@
-use Rattle.std.proofs.Common.{◌≡◌, ℕ, ◌^◌, ◌<◌, ◌≤◌, Bool, true, false, not, ◌&&◌, ◌||◌, eqb, sym, ◌∙◌, arith}
+use Rattle.std.proofs.Common.{rules, ◌≡◌, ℕ, ◌^◌, ◌<◌, Bool, true, false, not, ◌&&◌, ◌||◌, eqb, Some, None, Option, MatchOption, sym, refl, ◌∙◌, subst, arith}
 use Rattle.std.proofs.lemmas.Bool.Decides.{nat_tests}
 use Rattle.atoms.specs.Assuming.{settled}
 use Rattle.atoms.specs.Sets.{has}
@@ -6,8 +6,10 @@ use Rattle.atoms.specs.declared.assumptions.Assumptions.{Assumptions}
 use Rattle.atoms.specs.declared.clauses.Clause.{Clause}
 use Rattle.atoms.specs.declared.sets.AtomSet.{AtomSet}
 use Rattle.atoms.proofs.Members.{has_high}
-use Rattle.search.specs.Judging.{true_at, open_at, Sole}
-use Rattle.search.proofs.Clausewise.{all_out, leaves_met, leaves_both, leaves_many}
+use Rattle.search.specs.Judging.{true_at, open_at, Sole, Judged, Forces}
+use Rattle.search.specs.declared.status.Status.{Status}
+use Rattle.search.specs.declared.status.Status.TheVariants.{Forced, Open}
+use Rattle.search.proofs.Clausewise.{all_out, leaves_met, leaves_both, leaves_many, signed}
 use Rattle.search.proofs.judging.judge.Goals as goal
 
 -- the set of the atoms of true literals, and a set of undecided atoms, as the code computes them
@@ -19,16 +21,25 @@ open_is : (w : Assumptions) (s d r : AtomSet) → ((i : ℕ) → has d i ≡ set
 open_is w s d r a b i = let x = a i in let y = b i in cc
 
 -- a set with a member has one below 64
-some_open : (w : Assumptions) (s r : AtomSet) (b : Bool) → r.bits < 2 ^ 64 → ((i : ℕ) → open_at w s i ≡ has r i) → (((i : ℕ) → has r i ≡ false) → b ≡ true) → b ≡ false
+some_open : (w : Assumptions) (s r : AtomSet) → r.bits < 2 ^ 64 → ((i : ℕ) → open_at w s i ≡ has r i) → (((i : ℕ) → has r i ≡ false) → false ≡ true)
     → ((a : ℕ) → a < 64 → open_at w s a ≡ false) → ⊥
-some_open w s r b fits is some e none = all_out (has r) b (λ i l. has_high 64 r.bits i fits l) some e (λ a l. sym (is a) ∙ none a l)
+some_open w s r fits is some none = all_out (has r) false (λ i l. has_high 64 r.bits i fits l) some refl (λ a l. sym (is a) ∙ none a l)
 
 -- a set with one member below 64 has just that
 sole_low : (w : Assumptions) (s r : AtomSet) → r.bits < 2 ^ 64 → ((i : ℕ) → open_at w s i ≡ has r i) → (y : ℕ) → y < 64 → ((a : ℕ) → a < 64 → open_at w s a ≡ eqb y a) → Sole r y
-sole_low w s r fits is y ly h = record { small = ly; members = λ i. low (has r i) i (has_high 64 r.bits i fits) (λ l. sym (is i) ∙ h i l) }
+sole_low w s r fits is y ly h = record { small = ly; members = λ i. grind (arith, nat_tests, has_high 64 r.bits i fits, is i, h i) }
+
+-- undecided literals of one sign alone: r has their atoms
+one_sign : (h : Bool) (w : Assumptions) (c : Clause) (r : AtomSet) (o : Option ℕ) (s : Status) → r.bits < 2 ^ 64 → ((a : ℕ) → true_at w c a ≡ false)
+    → ((a : ℕ) → open_at w (signed h c) a ≡ has r a) → ((a : ℕ) → open_at w (signed (not h) c) a ≡ false) → (((a : ℕ) → has r a ≡ false) → false ≡ true)
+    → MatchOption o ((a : ℕ) → Sole r a → ⊥) (λ a. Sole r a) → (o ≡ None → s ≡ Open) → ((a : ℕ) → o ≡ Some a → s ≡ Forced (record { atom = a; holds = h })) → Judged w c s
+one_sign h w c r None s fits untrue is other some k e f =
+    subst (λ (x : Status). Judged w c x) (sym (e refl)) (leaves_many h w c (some_open w (signed h c) r fits is some) (λ y l g. k y (sole_low w (signed h c) r fits is y l g)))
+one_sign h w c r (Some a) s fits untrue is other some k e f = subst (λ (x : Status). Judged w c x) (sym (f a refl)) (by h is other)
   where
-    low : (b : Bool) (i : ℕ) → (64 ≤ i → b ≡ false) → (i < 64 → b ≡ eqb y i) → b ≡ eqb y i
-    low b i f g = grind (arith, nat_tests, f, g)
+    by : (h : Bool) → ((i : ℕ) → open_at w (signed h c) i ≡ has r i) → ((i : ℕ) → open_at w (signed (not h) c) i ≡ false) → Forces w c (record { atom = a; holds = h })
+    by true is other = record { small = k.small; untrue = λ i _. untrue i; plain = λ i _. is i ∙ k.members i; negated = λ i _. other i }
+    by false is other = record { small = k.small; untrue = λ i _. untrue i; plain = λ i _. other i; negated = λ i _. is i ∙ k.members i }
 
 pub returns-then-not-is_empty : goal.returns-then-not-is_empty
 returns-then-not-is_empty c =
@@ -37,50 +48,30 @@ returns-then-not-is_empty c =
     leaves_met c.args.trail c.args.clause
     (λ h. all_out (has c.union.result) c.is_empty.result (λ i l. has_high 64 c.union.result.bits i (omega arith) l) c.is_empty.ensures.some c.if-not-is_empty.true (λ a l. m a ∙ h a l))
 
-pub returns-in-Some : goal.returns-in-Some
-returns-in-Some c =
+pub returns-in-false-true : goal.returns-in-false-true
+returns-in-false-true c =
     let m = true_is c.args.trail c.args.clause c.intersection-plain_true.result c.intersection-negated_true.result c.union.result
     c.intersection-plain_true.ensures c.intersection-negated_true.ensures c.union.ensures in
     let p = open_is c.args.trail c.args.clause.plain c.union-decided.result c.difference-plain.result c.union-decided.ensures c.difference-plain.ensures in
     let n = open_is c.args.trail c.args.clause.negated c.union-decided.result c.difference-negated.result c.union-decided.ensures c.difference-negated.ensures in
-    record {
-      small = c.in-Some.ensures.small;
-      untrue = λ a _. sym (m a) ∙ c.is_empty.ensures.all c.if-not-is_empty.false a;
-      plain = λ a _. p a ∙ c.in-Some.ensures.members a;
-      negated = λ a _. n a ∙ c.is_empty-2.ensures.all c.if-is_empty.true a;
-    }
+    one_sign true c.args.trail c.args.clause c.difference-plain.result c.sole-in-false-true.result c.map_or-in-false-true.result (omega arith)
+    (λ a. sym (m a) ∙ c.is_empty.ensures.all c.if-not-is_empty.false a) p (λ a. n a ∙ c.in-false-true.ensures'.all refl a) c.in-false-true.ensures.some
+    c.sole-in-false-true.ensures (λ e. search rules) (λ a e. search rules)
 
-pub returns-in-Some-sole : goal.returns-in-Some-sole
-returns-in-Some-sole c =
+pub returns-in-true-false : goal.returns-in-true-false
+returns-in-true-false c =
     let m = true_is c.args.trail c.args.clause c.intersection-plain_true.result c.intersection-negated_true.result c.union.result
     c.intersection-plain_true.ensures c.intersection-negated_true.ensures c.union.ensures in
     let p = open_is c.args.trail c.args.clause.plain c.union-decided.result c.difference-plain.result c.union-decided.ensures c.difference-plain.ensures in
     let n = open_is c.args.trail c.args.clause.negated c.union-decided.result c.difference-negated.result c.union-decided.ensures c.difference-negated.ensures in
-    record {
-      small = c.in-Some-sole.ensures.small;
-      untrue = λ a _. sym (m a) ∙ c.is_empty.ensures.all c.if-not-is_empty.false a;
-      plain = λ a _. p a ∙ c.is_empty-else-is_empty.ensures.all c.if-is_empty-3.true a;
-      negated = λ a _. n a ∙ c.in-Some-sole.ensures.members a;
-    }
+    one_sign false c.args.trail c.args.clause c.difference-negated.result c.sole.result c.map_or.result (omega arith)
+    (λ a. sym (m a) ∙ c.is_empty.ensures.all c.if-not-is_empty.false a) n (λ a. p a ∙ c.in-true-false.ensures.all refl a) c.in-true-false.ensures'.some
+    c.sole.ensures (λ e. search rules) (λ a e. search rules)
 
-pub returns-in_default : goal.returns-in_default
-returns-in_default c =
-    let p = open_is c.args.trail c.args.clause.plain c.union-decided.result c.difference-plain.result c.union-decided.ensures c.difference-plain.ensures in
-    leaves_many true c.args.trail c.args.clause
-    (some_open c.args.trail c.args.clause.plain c.difference-plain.result c.is_empty-then-is_empty.result (omega arith) p c.is_empty-then-is_empty.ensures.some c.if-is_empty-2.false)
-    (λ y l h. c.in_default.ensures y (sole_low c.args.trail c.args.clause.plain c.difference-plain.result (omega arith) p y l h))
-
-pub returns-in_default-sole : goal.returns-in_default-sole
-returns-in_default-sole c =
-    let n = open_is c.args.trail c.args.clause.negated c.union-decided.result c.difference-negated.result c.union-decided.ensures c.difference-negated.ensures in
-    leaves_many false c.args.trail c.args.clause
-    (some_open c.args.trail c.args.clause.negated c.difference-negated.result c.is_empty-2.result (omega arith) n c.is_empty-2.ensures.some c.if-is_empty.false)
-    (λ y l h. c.in_default-sole.ensures y (sole_low c.args.trail c.args.clause.negated c.difference-negated.result (omega arith) n y l h))
-
-pub returns-else-is_empty-3 : goal.returns-else-is_empty-3
-returns-else-is_empty-3 c =
+pub returns-in-false-false : goal.returns-in-false-false
+returns-in-false-false c =
     let p = open_is c.args.trail c.args.clause.plain c.union-decided.result c.difference-plain.result c.union-decided.ensures c.difference-plain.ensures in
     let n = open_is c.args.trail c.args.clause.negated c.union-decided.result c.difference-negated.result c.union-decided.ensures c.difference-negated.ensures in
     leaves_both c.args.trail c.args.clause
-    (some_open c.args.trail c.args.clause.plain c.difference-plain.result c.is_empty-else-is_empty.result (omega arith) p c.is_empty-else-is_empty.ensures.some c.if-is_empty-3.false)
-    (some_open c.args.trail c.args.clause.negated c.difference-negated.result c.is_empty-2.result (omega arith) n c.is_empty-2.ensures.some c.if-is_empty.false)
+    (some_open c.args.trail c.args.clause.plain c.difference-plain.result (omega arith) p c.in-false-false.ensures.some)
+    (some_open c.args.trail c.args.clause.negated c.difference-negated.result (omega arith) n c.in-false-false.ensures'.some)

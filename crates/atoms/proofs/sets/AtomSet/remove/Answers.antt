@@ -1,11 +1,11 @@
 use Rattle.std.proofs.Common.{◌≡◌, ℕ, ◌-◌, ◌*◌, ◌%◌, ◌^◌, ◌≤◌, Bool, true, false, not, ◌&&◌, eqb, refl, arith}
+use Rattle.std.proofs.lemmas.Bool.{both_ways}
 use lib.Bits.{bit_and}
 use Rattle.std.proofs.lemmas.Bool.Decides.{nat_tests}
 use Rattle.atoms.specs.Bits.{bit}
 use Rattle.atoms.proofs.Members.{has_remove, has_high}
 use Rattle.atoms.proofs.Below.{count_less}
 use Rattle.atoms.proofs.sets.AtomSet.remove.Goals as goal
-use Rattle.lists.proofs.Truth.{true_false}
 
 pub returns-then-a-lt-ATOMS : goal.returns-then-a-lt-ATOMS
 returns-then-a-lt-ATOMS c =
@@ -20,7 +20,7 @@ returns-else-a-lt-ATOMS c =
     let high : (i : ℕ) → 64 ≤ i → bit c.args.self.bits i ≡ false = λ i l. has_high 64 c.args.self.bits i (omega arith) l in
     record {
       rest = λ i. same (bit c.args.self.bits i) c.args.a i c.if-a-lt-ATOMS.false (high i);
-      fewer = λ h. absurd (true_false h (high c.args.a c.if-a-lt-ATOMS.false));
+      fewer = λ h. absurd (both_ways _ (high c.args.a c.if-a-lt-ATOMS.false) h);
     }
   where
     same : (b : Bool) (a i : ℕ) → 64 ≤ a → (64 ≤ i → b ≡ false) → b ≡ b && not (eqb a i)

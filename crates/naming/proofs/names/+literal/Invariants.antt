@@ -1,4 +1,0 @@
-use Rattle.naming.proofs.names.+literal.Given as goal
-
-abbrev pub decreases-literal : goal.decreases-literal
-decreases-literal l = l.row

@@ -1,0 +1,30 @@
+use Rattle.std.proofs.Common.{◌≡◌, ◌+◌, ◌*◌, ◌≤◌, count_by, Bool, true, false, cond, refl, ap, ◌∙◌, arith}
+use Rattle.std.specs.List.{range_with_len}
+use Rattle.naming.specs.Order.{takes}
+use mir.Val.{bool_byte}
+use Rattle.clausal.proofs.Rows.{lawful_rows}
+use Rattle.naming.proofs.Ordered.{takers_by, takers_few, taken_is}
+use Rattle.naming.proofs.reached.ReachedRule.names_taken.Goals as goal
+
+byte_of : (b : Bool) → bool_byte b ≡ cond b 1 0
+byte_of true = refl
+byte_of false = refl
+
+byte_small : (b : Bool) → bool_byte b ≤ 1
+byte_small true = omega arith
+byte_small false = omega arith
+
+pub overflow_add-result : goal.overflow_add-result
+overflow_add-result c =
+    let n = c.takers.ensures ∙ ap (λ l. count_by (takes c.args.self.now.rows.now) (range_with_len (l * 128) 128)) c.index.ensures.same ∙ takers_by c.args.self.now.rows.now c.args.level in
+    let few = takers_few c.args.self.now.rows.now c.args.level 128 in
+    omega (arith, c.from-handles.ensures, byte_small c.eq.result)
+
+pub returns : goal.returns
+returns c =
+    let n = c.takers.ensures ∙ ap (λ l. count_by (takes c.args.self.now.rows.now) (range_with_len (l * 128) 128)) c.index.ensures.same ∙ takers_by c.args.self.now.rows.now c.args.level in
+    let few = takers_few c.args.self.now.rows.now c.args.level 128 in
+    record {
+      value = ap (λ k. k + c.from-handles.result) n ∙ taken_is c.args.self.now.rows.now (lawful_rows _ c.args.self.now.lawful) c.args.level _ (c.from-handles.ensures ∙ byte_of c.eq.result ∙ ap (λ b. cond b 1 0) c.eq.ensures);
+      small = omega (arith, c.from-handles.ensures, byte_small c.eq.result);
+    }
