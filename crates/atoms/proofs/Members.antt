@@ -4,7 +4,7 @@ use native.Mathlib.Nat.{div-div-eq-div-mul, pow-succ', zero-div}
 use lib.Bits.{bit_and, bit_or, and_shr, or_shr, and_step, or_step, and_mask, or_lt}
 use lib.Count.{count_trailing_zeros, under}
 use Rattle.std.proofs.lemmas.Nat.{one_shl, pow_below}
-use Rattle.std.proofs.lemmas.Bool.{true≢false, ltb-true, ltb-false, lt-ltb}
+use Rattle.std.proofs.lemmas.Bool.{true≢false, ltb-true, ltb-false, lt-ltb, eqb-true, eq-eqb}
 use Rattle.std.proofs.lemmas.Bool.Decides.{nat_tests}
 use Rattle.atoms.specs.Bits.{bit}
 
@@ -85,6 +85,13 @@ has_same (suc k) m n hm hn e =
 -- a set with no members is empty
 pub has_nothing : (k n : ℕ) → n < 2 ^ k → ((i : ℕ) → bit n i ≡ false) → n ≡ 0
 has_nothing k n h e = has_same k n 0 h (pow_pos k) (λ i. e i ∙ sym (has_none i))
+
+-- what comparing a set with that of no atom says
+pub empty_test : (n : ℕ) (b : Bool) → n < 2 ^ 64 → b ≡ eqb n 0 → b ≡ true → (i : ℕ) → bit n i ≡ false
+empty_test n b l t e i = ap (λ (m : ℕ). bit m i) (eqb-true n 0 (sym t ∙ e)) ∙ has_none i
+
+pub empty_tested : (n : ℕ) (b : Bool) → n < 2 ^ 64 → b ≡ eqb n 0 → ((i : ℕ) → bit n i ≡ false) → b ≡ true
+empty_tested n b l t e = t ∙ eq-eqb n 0 (has_nothing 64 n l e)
 
 -- a set that a test for no members finds not empty is not 0
 pub not_zero : (n : ℕ) (b : Bool) → (((i : ℕ) → bit n i ≡ false) → b ≡ true) → b ≡ false → 0 < n

@@ -96,6 +96,7 @@ impl AtomSet {
     }
 
     /// Whether no atom is in the set.
+    #[tactic(auto, using(crate::proofs::Members::empty_test, crate::proofs::Members::empty_tested))]
     pub fn is_empty(self) -> bool
         ensures all { result ≡ true → (i : ℕ) → has self i ≡ false }
         ensures some { ((i : ℕ) → has self i ≡ false) → result ≡ true }

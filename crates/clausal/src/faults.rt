@@ -11,7 +11,7 @@ pub enum AddFault {
     /// Sixteen rules are held.
     TooManyRules,
     /// The lowest level that would have more than 48 names.
-    // A number, as the detail of a refusal is, so that the fault can say whatever it could.
+    // A number, as the detail of a refusal is, and no `Level`, which would take fewer values.
     TooManyNames(u8),
 }
 

@@ -127,6 +127,7 @@ impl Comparison {
 
     // Asks all oracles, and compares each answer with that of the one before, the first with the last.
     fn ask(&mut self, held: &Held, under: Assumptions) {
+        // without an oracle there is no answer to compare
         let Some(last) = self.oracles.last_mut() else {
             return;
         };

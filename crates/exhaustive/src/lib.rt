@@ -48,6 +48,7 @@ impl Exhaustive {
     }
 }
 
+// `take`, `forget` and `clear` go to the store, as in each oracle; why is said at the trait.
 impl Oracle for Exhaustive {
     ghost entries = { exhaustive_entries };
 

@@ -13,7 +13,7 @@ mod methods;
 mod tests;
 
 /// A list of at most `N` items: the first `len` of the slots.
-// The kit's list of this kind cannot be copied, as a rule's list of rows is, and wants a default of every item.
+// The list of the crate `arrayvec` cannot be copied, as a rule's list of rows is, and wants a default of every item.
 pub struct ArrayVec<T, const N: usize> {
     items: [T; N],
     len: usize,

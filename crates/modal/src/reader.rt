@@ -16,7 +16,7 @@ use fixed_list::ArrayVec;
 
 const DEEPEST: usize = 7;
 
-// The rows that are read, with the depth of each.
+// The rows that are read, with the depth of each. The depths stand beside the list, since a rule keeps its rows alone.
 #[derive(Drop)]
 struct Reader {
     list: RowList,

@@ -1,7 +1,7 @@
 -- What a table holds, from its parts: it is a naming of its rules, and stays one when a rule is taken in.
 use Rattle.std.proofs.lemmas.Grind.{common_steps}
 use Rattle.std.proofs.lemmas.Bool.Decides.{nat_tests}
-use Rattle.std.proofs.Common.{◌≡◌, ℕ, zero, suc, ◌+◌, ◌<◌, ◌≤◌, Bool, true, false, ltb, List, [], ◌∷◌, ◌++◌, map, length, Ok, Err, Some, None, MatchOption, position, cond, sym, refl, ap, ◌∙◌, subst, ap₂, inl, inr, zero-add, arith, length-append}
+use Rattle.std.proofs.Common.{◌≡◌, ℕ, zero, suc, ◌+◌, ◌<◌, ◌≤◌, Bool, true, false, ltb, List, [], ◌∷◌, ◌++◌, map, length, Ok, Err, Some, None, Option, MatchOption, get_or, position, cond, sym, refl, ap, ◌∙◌, subst, ap₂, inl, inr, zero-add, arith, length-append}
 use mathlib.Core.Path.{fun_ext}
 use Rattle.std.specs.List.{range_with_len, find}
 use Rattle.std.specs.Option.{option_map}
@@ -31,12 +31,13 @@ use Rattle.clausal.specs.declared.names.Name.TheVariants.{Free as free, Place as
 use Rattle.clausal.specs.declared.shapes.Shape.{Shape}
 use Rattle.clausal.proofs.Modals.{boxed_one, diamonded_one, modals_length, boxes_orderly, diamonds_orderly}
 use Rattle.clausal.proofs.Reading.{handle_known}
-use Rattle.naming.specs.Levels.{lists_at, names_at, boxes_at, diamonds_at, held_rules, named_state}
+use Rattle.naming.specs.Levels.{LevelLists, lists_at, names_at, boxes_at, diamonds_at, held_rules, named_state}
 use Rattle.naming.specs.Names.{names_for, names_from}
 use Rattle.naming.specs.Order.{crowds}
 use Rattle.naming.specs.TakenIn.{TakenIn}
 use Rattle.naming.specs.Tables.{definition, rules_in, HandleIs}
 use Rattle.naming.proofs.Adding.{adds}
+use Rattle.naming.proofs.Every.{level_read}
 use Rattle.naming.proofs.Named.{expect_push, expect_length, in_order_naming}
 use Rattle.naming.proofs.Ordered.{level_found, no_level, no_first}
 use Rattle.naming.proofs.Lookups.{position_first}
@@ -184,3 +185,8 @@ module _ (t : Table) where
         | inl h ↦ absurd (both_ways _ e (some_from (is_handle_of k) ((named_naming t.rules t.levels t.rules_lawful t.named).handled k h) (eq-eqb k k refl)))
         | inr h ↦ h
       ]
+
+-- what a look at the names of level 0, read from the levels, says of the handle
+pub handle_found : (t : Table) (k i : ℕ) (d : LevelTable) (o : Option ℕ) → o ≡ option_map (λ j. 16 + j) (position (is_handle_of k) (items_of (get_or t.levels i d).names)) → i ≡ 0 → i < length t.levels → MatchOption o (length (rules_in t) ≤ k) (λ a. HandleIs t k a)
+handle_found t k i d o e z h =
+    subst (λ (r : Option ℕ). MatchOption r (length (rules_in t) ≤ k) (λ a. HandleIs t k a)) (sym (e ∙ ap (λ (s : LevelLists). option_map (λ j. 16 + j) (position (is_handle_of k) s.names)) (sym (level_read t.levels i d h) ∙ ap (lists_at t.levels) z))) (handle_known_at t k)

@@ -52,6 +52,7 @@ impl LevelTable {
 
     // Appends what a shape under a sign gives to name n: definitions over the names here, a box or diamond clause over the
     // names one level further.
+    // What it is over and what it is written to stand apart: a struct of both would lend the level twice.
     fn give_shape(
         &mut self,
         rule: &ReachedRule,
@@ -75,21 +76,23 @@ impl LevelTable {
             Shape::Both(c, e) => {
                 let x = rule.literal(&self.names, c, plus);
                 let y = rule.literal(&self.names, e, plus);
-                let _ = definitions.push(implies(n, x));
-                let _ = definitions.push(implies(n, y));
+                definitions.push(implies(n, x)).unwrap();
+                definitions.push(implies(n, y)).unwrap();
             }
             Shape::Either(c, e) => {
                 let x = rule.literal(&self.names, c, plus);
                 let y = rule.literal(&self.names, e, plus);
-                let _ = definitions.push(implies_either(n, x, y));
+                definitions.push(implies_either(n, x, y)).unwrap();
             }
             Shape::All(c) => {
                 let literal = rule.literal(further, c, plus);
-                let _ = self.boxes.push(ModalClause { name: n, literal });
+                self.boxes.push(ModalClause { name: n, literal }).unwrap();
             }
             Shape::One(c) => {
                 let literal = rule.literal(further, c, plus);
-                let _ = self.diamonds.push(ModalClause { name: n, literal });
+                self.diamonds
+                    .push(ModalClause { name: n, literal })
+                    .unwrap();
             }
         }
     }
@@ -121,7 +124,7 @@ impl LevelTable {
             }
             Name::Handle(_) => {
                 let x = rule.literal(&self.names, (rule.rows.len() - 1) as u8, true);
-                let _ = definitions.push(implies(n, x));
+                definitions.push(implies(n, x)).unwrap();
             }
         }
     }
@@ -161,7 +164,7 @@ pub(crate) fn take_in(
 {
     let mut definitions = [ArrayVec::new(Clause::NONE); LEVELS];
     let mut further = ArrayVec::new(Name::Free);
-    // by index, since no proof knows what is written through the elements that `iter_mut` lends
+    // by index, as it goes backwards: of what is written through `iter_mut` under `rev` no proof knows
     for level in (0..LEVELS).rev() {
         definitions[level] = levels[level].take_in(rule, Level::ALL[level], &further);
         further = levels[level].names;

@@ -41,15 +41,16 @@ impl ReachedRule<'_> {
         for n in first..first + LEVEL {
             if self.is_taker(n) {
                 let place = place_of(n);
-                let _ = names.push(Name::Place {
+                let name = Name::Place {
                     rule,
                     row: place.row,
                     plus: place.plus,
-                });
+                };
+                names.push(name).unwrap();
             }
         }
         if level == Level::ROOT {
-            let _ = names.push(Name::Handle(rule));
+            names.push(Name::Handle(rule)).unwrap();
         }
     }
 

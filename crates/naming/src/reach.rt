@@ -42,7 +42,7 @@ impl Walk<'_, '_> {
         let n = number(place);
         if !self.marks[n] {
             self.marks[n] = true;
-            let _ = self.todo.push(n as u16);
+            self.todo.push(n as u16).unwrap();
         }
     }
 

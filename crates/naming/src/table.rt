@@ -73,7 +73,7 @@ impl Table {
             return Err(AddFault::TooManyNames(level.number()));
         }
         let levels = take_in(&mut self.levels, &reached);
-        let _ = self.rules.push(RowList::from(rule));
+        self.rules.push(RowList::from(rule)).unwrap();
         Ok(Added {
             number,
             definitions: Definitions { levels },
@@ -96,6 +96,7 @@ impl Table {
     }
 
     /// The handle of the rule with the number, if it is held.
+    #[tactic(auto, using(crate::proofs::Held::handle_found))]
     pub fn handle(&self, number: u8) -> Option<u8>
         ensures { MatchOption result (length (rules_in self.now) ≤ number) (λ a. HandleIs self.now number a) }
     {

@@ -1,5 +1,5 @@
 -- A level's entries, and how many of them have each mark.
-use Rattle.std.proofs.Common.{◌≡◌, ℕ, ◌+◌, ◌<◌, ◌≤◌, true, cond, List, [], ◌∷◌, ◌++◌, map, length, get_or, take, set, sym, refl, ap, ◌∙◌, subst, arith, ltb, is_ok, Result, Ok, Err}
+use Rattle.std.proofs.Common.{◌≡◌, ℕ, ◌+◌, ◌<◌, ◌≤◌, cond, List, [], ◌∷◌, ◌++◌, map, length, get_or, take, set, sym, refl, ap, ◌∙◌, subst, arith, is_ok, Result}
 use Rattle.std.specs.Bool.{⊤}
 use Rattle.std.proofs.lemmas.Bool.Decides.{nat_tests}
 use Rattle.std.proofs.lemmas.List.Filters.{length-filter_both}
@@ -48,10 +48,6 @@ taken rs i n old r e x l q items when =
       here = entries_here rs i r l ∙ items ∙ ap (λ (xs : List Entry). cond (is_ok x) (xs ++ e ∷ []) xs) (entries_read rs i old l);
       when = when ∙ ap (room e.mark) (entries_read rs i old l);
     })
-
--- a push where there is room is taken
-pub accepted : {X E : Type 0} (r : Result X E) (x : X) (e : E) (k n : ℕ) → r ≡ cond (ltb k n) (Ok x) (Err e) → k < n → is_ok r ≡ true
-accepted r x e k n q l = grind (arith, nat_tests)
 
 -- among the first entries there are no more definitions than entries
 pub fewer_definitions : (es : List Entry) (i : ℕ) → i ≤ length es → length (definitions (take i es)) ≤ i

@@ -21,7 +21,7 @@ const SLOTS: usize = DEFINITIONS + LEARNT;
 #[derive(Clone, Copy)]
 pub struct EntryList {
     entries: ArrayVec<Entry, SLOTS>,
-    // counted as they come, so that a call of `take` need not count them
+    // counted as they come: to count at each `take` and `forget` would need the same facts again and go over the list
     defined: usize,
     taught: usize,
     ghost defines: { length (definitions (items_of entries)) ≡ defined },

@@ -30,7 +30,7 @@ fn world<W: fmt::Write>(
     indent(row.level, f)?;
     write!(f, "world {number}:")?;
     letters(row.letters, f)?;
-    // As the evaluation of a sheet finds them: no function can answer such a chain.
+    // As the evaluation of a sheet finds them: an `impl Iterator` as a result gets no proof, and a type of its own is longer.
     let children = tree
         .iter()
         .enumerate()

@@ -44,6 +44,7 @@ fn count(entries: &[Entry], under: Assumptions) -> Option<AtomSet>
         .difference(under.within)
         .difference(under.without);
     let mut counted = AtomSet::NONE;
+    // With a label, as a valuation is to be dropped at the first entry that it makes false.
     'next: loop {
         let valuation = under.within.union(counted);
         for entry in entries {
@@ -73,6 +74,7 @@ impl Plain {
     }
 }
 
+// `take`, `forget` and `clear` go to the store, as in each oracle; why is said at the trait.
 impl Oracle for Plain {
     ghost entries = { plain_entries };
 

@@ -44,7 +44,7 @@ fn judge(clause: Clause, trail: Assumptions) -> Status
 pub(crate) fn examine(entries: &[Entry], trail: Assumptions) -> Status
     ensures { FirstJudged trail entries.now result }
 {
-    // A match, since a status is no Option that `?` or `find_map` could take.
+    // A match: for a `find_map` the two statuses that are not open would need an enum of their own in an Option.
     for entry in entries {
         match judge(entry.clause, trail) {
             Status::Open => {}

@@ -41,6 +41,7 @@ impl Searcher {
     }
 }
 
+// `take`, `forget` and `clear` go to the store, as in each oracle; why is said at the trait.
 impl Oracle for Searcher {
     ghost entries = { searcher_entries };
 

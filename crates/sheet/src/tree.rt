@@ -17,10 +17,8 @@ fn stands(before: &[SheetRow], row: SheetRow) -> bool
     if before.is_empty() {
         return row.parent == 0 && row.level == 0;
     }
-    match before.get(row.parent as usize) {
-        Some(above) => above.level < DEEPEST && row.level == above.level + 1,
-        None => false,
-    }
+    before.get(row.parent as usize).is_some_and(|above| above.level < DEEPEST
+        && row.level == above.level + 1)
 }
 
 // The rows, if there is one.

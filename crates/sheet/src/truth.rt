@@ -38,6 +38,7 @@ impl Evaluation<'_> {
     {
         let mut all = RowSet::NONE.complement();
         let mut any = RowSet::NONE;
+        // As the drawing of a page finds them: an `impl Iterator` as a result gets no proof, and a type of its own is longer.
         let successors = self
             .tree
             .iter()

@@ -1,6 +1,7 @@
 use Rattle.std.proofs.Common.{◌≡◌, ℕ, ◌<◌, Bool, false, cond, List, [], ◌∷◌, ◌++◌, length, get_or, sym, ap, ◌∙◌, arith, length-append}
 use Rattle.stack.specs.Entries.{entries_of, slots_of}
-use Rattle.naming.proofs.Walking.{marked_more, put}
+use Rattle.fixed_list.proofs.Counted.{accepted}
+use Rattle.naming.proofs.Walking.{marked_lt, marked_more, put}
 use Rattle.naming.proofs.reach.Walk.visit.Goals as goal
 
 -- the number, as the place has it
@@ -31,3 +32,10 @@ returns-then-not-self-n-clause-count c =
     let p = ap length (put w.marks c.number-n.result (entries_of w.todo) _ (slots_of w.todo) h c.if-not-self-n.true e w.room c.push.ensures.entries) ∙ length-append (entries_of w.todo) _ in
     let a = marked_more w.marks c.number-n.result h c.if-not-self-n.true in
     omega arith
+
+pub unwrap-requires : goal.unwrap-requires
+unwrap-requires c =
+    let w = c.args.self.now in
+    let h : c.number-n.result < length w.marks = omega arith in
+    let k = marked_lt w.marks c.number-n.result h c.if-not-self-n.true in
+    accepted _ _ _ _ _ c.push.ensures.answer (omega (arith, w.room, w.slots))

@@ -1,7 +1,7 @@
 use Rattle.std.proofs.Common.{◌≡◌, ◌+◌, ◌-◌, ◌*◌, ◌<◌, length, sym, refl, ap, ◌∙◌, arith}
 use Rattle.std.proofs.lemmas.Bool.{eq-eqb, eqb-true, cond-true}
 use Rattle.fixed_list.specs.Items.{items_of}
-use Rattle.fixed_list.proofs.Counted.{pushed}
+use Rattle.fixed_list.proofs.Counted.{pushed, accepted}
 use Rattle.clausal.specs.declared.names.Name.TheVariants.{Place}
 use Rattle.clausal.specs.declared.places.Place.{Place as Spot}
 use Rattle.clausal.proofs.Rows.{lawful_rows}
@@ -45,3 +45,25 @@ returns-then-eq c =
     let d = taken_is rows (lawful_rows _ c.args.self.now.lawful) c.args.level 1 (sym (cond-true _ _ _ (eq-eqb _ _ e))) in
     let room : length (items_of c.loop-n.names) < 48 = omega (arith, c.requires) in
     named_handle _ _ _ _ _ _ c.loop-n.invariant _ z e (pushed _ _ _ 48 room c.push-then-eq.ensures.items)
+
+pub unwrap-requires : goal.unwrap-requires
+unwrap-requires c =
+    let rows = c.args.self.now.rows.now in
+    let i = c.loop-n.n - c.args.level * 128 in
+    let at : c.loop-n.n ≡ c.args.level * 128 + i = omega arith in
+    let a = named_count _ _ _ _ _ _ c.loop-n.invariant in
+    let b = takers_room rows c.args.level i (c.if-is_taker.ensures ∙ ap (takes rows) at) (omega arith) in
+    let d = taken_is rows (lawful_rows _ c.args.self.now.lawful) c.args.level _ refl in
+    let room : length (items_of c.loop-n.names) < 48 = omega (arith, c.requires) in
+    accepted _ _ _ _ _ c.push.ensures.answer room
+
+pub unwrap-requires-then-eq : goal.unwrap-requires-then-eq
+unwrap-requires-then-eq c =
+    let rows = c.args.self.now.rows.now in
+    let a = named_count _ _ _ _ _ _ c.loop-n.invariant in
+    let z : c.loop-n.n - c.args.level * 128 ≡ 128 = omega arith in
+    let b = ap (λ i. length (takers rows c.args.level i)) z in
+    let e = eqb-true c.args.level 0 (sym c.if-eq.ensures) in
+    let d = taken_is rows (lawful_rows _ c.args.self.now.lawful) c.args.level 1 (sym (cond-true _ _ _ (eq-eqb _ _ e))) in
+    let room : length (items_of c.loop-n.names) < 48 = omega (arith, c.requires) in
+    accepted _ _ _ _ _ c.push-then-eq.ensures.answer room

@@ -3,7 +3,8 @@ use Rattle.std.proofs.lemmas.List.{take_all}
 use Rattle.atoms.specs.Clauses.{definitions, learnt}
 use Rattle.fixed_list.proofs.Counted.{length_items}
 use Rattle.fixed_list.specs.Items.{items_of}
-use Rattle.oracle.proofs.Storing.{accepted, fewer_definitions, kept_again, kept_none}
+use Rattle.fixed_list.proofs.Counted.{accepted}
+use Rattle.oracle.proofs.Storing.{fewer_definitions, kept_again, kept_none}
 use Rattle.oracle.proofs.entry_list.EntryList.forget.Goals as goal
 
 pub unwrap-requires : goal.unwrap-requires

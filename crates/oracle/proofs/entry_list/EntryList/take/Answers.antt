@@ -5,7 +5,8 @@ use Rattle.atoms.specs.declared.clauses.Mark.TheVariants.{Definition, Learnt}
 use Rattle.oracle.specs.Oracles.{room}
 use Rattle.oracle.specs.Stores.{held_of}
 use Rattle.oracle.specs.declared.entry_list.EntryList.{EntryList}
-use Rattle.oracle.proofs.Storing.{counted, accepted}
+use Rattle.fixed_list.proofs.Counted.{accepted}
+use Rattle.oracle.proofs.Storing.{counted}
 use Rattle.oracle.proofs.entry_list.EntryList.take.Goals as goal
 
 -- where there is room for an entry there is a slot
