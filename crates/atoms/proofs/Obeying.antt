@@ -1,12 +1,15 @@
 -- Valuations that obey assumptions, by the atoms that must be in and those that must be out.
-use Rattle.std.proofs.Common.{◌≡◌, ℕ, Bool, true, false, cond, not, ◌&&◌, ◌||◌, eqb, ltb, sym, refl, ap, ◌∙◌, eqb-true}
+use Rattle.std.proofs.Common.{◌≡◌, ℕ, ◌^◌, ◌<◌, Bool, true, false, cond, not, ◌&&◌, ◌||◌, eqb, ltb, sym, refl, ap, ◌∙◌, eqb-true, arith}
 use Rattle.std.proofs.lemmas.Bool.{or_left, and_parts, not-true, both_ways}
-use Rattle.atoms.specs.Assuming.{Obeys, clashing, Joined}
+use Rattle.std.proofs.lemmas.Bool.Decides.{nat_tests}
+use Rattle.atoms.specs.Assuming.{Obeys, clashing, settled, Joined}
 use Rattle.atoms.specs.Clauses.{Valuation, obeys_one}
 use Rattle.atoms.specs.Sets.{has}
 use Rattle.atoms.specs.declared.assumptions.Assumptions.{Assumptions}
 use Rattle.atoms.specs.declared.clauses.Literal.{Literal}
+use Rattle.atoms.specs.declared.sets.AtomSet.{AtomSet}
 use Rattle.atoms.proofs.Below.{some_none}
+use Rattle.atoms.proofs.Members.{has_high}
 
 -- the valuation has in it the atoms that must be in, and none that must be out
 pub record Follows (v : Valuation) (w : Assumptions) : Type 0 where
@@ -34,6 +37,11 @@ clash_never w e v f = both_ways _ (some_none 64 (λ a. has w.within a && has w.w
     by true true v i u = absurd (both_ways _ (u refl) (i refl))
     by true false v i u = refl
     by false o v i u = refl
+
+-- the atoms of a set that are among the undecided ones, which are all below 64
+pub undecided_of : (w : Assumptions) (s u r : AtomSet) → s.bits < 2 ^ 64 → ((i : ℕ) → has u i ≡ ltb i 64 && not (settled w i)) → ((i : ℕ) → has r i ≡ has s i && has u i)
+    → (i : ℕ) → has r i ≡ has s i && not (settled w i)
+undecided_of w s u r fits a b i = grind (arith, nat_tests, has_high 64 s.bits i fits, a i, b i)
 
 -- one literal more
 pub follows_less : (w r : Assumptions) (x : Literal) (v : Valuation) → Joined w x r → Follows v r → Follows v w

@@ -1,13 +1,19 @@
 -- A valuation matters only on the atoms that the entries name and that are not assumed.
-use Rattle.std.proofs.Common.{◌≡◌, Bool, true, false, cond, not, ◌&&◌, ◌||◌, List, sym, refl}
+use Rattle.std.proofs.Common.{◌≡◌, ℕ, ◌^◌, ◌<◌, Bool, true, false, cond, not, ◌&&◌, ◌||◌, ltb, List, sym, refl, ap, ◌∙◌}
 use Rattle.std.proofs.lemmas.Bool.{both_ways}
 use Rattle.atoms.specs.Assuming.{settled}
 use Rattle.atoms.specs.Clauses.{Valuation, makes_all, names}
 use Rattle.atoms.specs.Sets.{has}
 use Rattle.atoms.specs.declared.assumptions.Assumptions.{Assumptions}
 use Rattle.atoms.specs.declared.clauses.Entry.{Entry}
+use Rattle.atoms.specs.declared.sets.AtomSet.{AtomSet}
 use Rattle.atoms.proofs.Making.{agree_all}
-use Rattle.atoms.proofs.Obeying.{Follows}
+use Rattle.atoms.proofs.Obeying.{Follows, undecided_of}
+
+-- the set of those atoms, from the set of the named ones and that of the undecided ones
+pub free_named : (es : List Entry) (w : Assumptions) (n u f : AtomSet) → n.bits < 2 ^ 64 → ((i : ℕ) → has n i ≡ names es i) → ((i : ℕ) → has u i ≡ ltb i 64 && not (settled w i))
+    → ((i : ℕ) → has f i ≡ has n i && has u i) → (i : ℕ) → has f i ≡ names es i && not (settled w i)
+free_named es w n u f fits a b e i = undecided_of w n u f fits b e i ∙ ap (λ (x : Bool). x && not (settled w i)) (a i)
 
 -- the valuation on those atoms; any other is as assumed, else out
 abbrev pub restricted : List Entry → Assumptions → Valuation → Valuation

@@ -3,7 +3,7 @@ ghost use Rattle.std.specs.Prelude.{◌≡◌, ◌+◌, ◌<◌, ◌≤◌, Matc
 use std::marker::Model;
 
 /// How many levels there are: 0 to 7.
-pub const LEVELS: u8 = 8;
+pub const LEVELS: usize = 8;
 
 /// A number of steps from the root, 0 to 7. Clauses see the number.
 #[derive(Clone, Copy, PartialEq, Eq, PartialOrd, Ord, Debug)]
@@ -31,7 +31,7 @@ impl Level {
     pub const DEEPEST: Level = Level { number: 7 };
 
     /// Every level, the root's first.
-    pub const ALL: [Level; 8] = [
+    pub const ALL: [Level; LEVELS] = [
         Level { number: 0 },
         Level { number: 1 },
         Level { number: 2 },
@@ -46,7 +46,7 @@ impl Level {
     pub fn new(number: u8) -> Option<Level>
         ensures { MatchOption result (8 ≤ number) (λ l. (l ≡ number) × (number < 8)) }
     {
-        if number < LEVELS {
+        if usize::from(number) < LEVELS {
             return Some(Level { number });
         }
         None
@@ -66,12 +66,13 @@ impl Level {
     {
         Level::new(self.number + 1)
     }
+}
 
-    /// The number of the level as an index.
-    pub fn index(self) -> usize
-        ensures same { result ≡ self }
-        ensures small { result < 8 }
-    {
-        usize::from(self.number)
+// The number of the level as an index.
+impl From<Level> for usize {
+    ghost from_gives = { λ level n. (n ≡ level) × (n < 8) };
+
+    fn from(level: Level) -> usize {
+        usize::from(level.number)
     }
 }

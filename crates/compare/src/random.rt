@@ -56,19 +56,15 @@ impl Random {
     }
 
     pub(crate) fn entry(&mut self, shape: Shape, mark: Mark) -> Entry {
-        let mut clause = Clause::NONE;
-        for _ in 0..shape.literals {
-            clause = clause.with(self.literal(shape));
-        }
+        let clause = (0..shape.literals).fold(
+            Clause::NONE,
+            |clause, _| clause.with(self.literal(shape)),
+        );
         Entry { clause, mark }
     }
 
     /// Assumptions of so many literals, which may contradict each other.
     pub(crate) fn assumptions(&mut self, shape: Shape, literals: u8) -> Assumptions {
-        let mut all = Assumptions::NONE;
-        for _ in 0..literals {
-            all = all.with(self.literal(shape));
-        }
-        all
+        (0..literals).fold(Assumptions::NONE, |all, _| all.with(self.literal(shape)))
     }
 }

@@ -106,7 +106,6 @@ impl Measurement {
 struct Timed<O> {
     name: &'static str,
     oracle: O,
-    root: Level,
     random: Random,
 }
 
@@ -115,7 +114,6 @@ impl<O: Oracle + Drop> Timed<O> {
         Timed {
             name,
             oracle,
-            root: Level::ROOT,
             random: Random::new(1),
         }
     }
@@ -123,7 +121,7 @@ impl<O: Oracle + Drop> Timed<O> {
     fn fill(&mut self, filling: Filling, shape: Shape) -> Result<(), LevelFull> {
         for _ in 0..filling.entries {
             let entry = self.random.entry(shape, filling.mark);
-            self.oracle.take(self.root, entry)?;
+            self.oracle.take(Level::ROOT, entry)?;
         }
         Ok(())
     }
@@ -145,7 +143,7 @@ impl<O: Oracle + Drop> Timed<O> {
     fn ask(&mut self, shape: Shape) -> usize {
         let held = (0..QUESTIONS).filter(|_| {
             let under = self.random.assumptions(shape, 2);
-            satisfiable(&mut self.oracle, self.root, under)
+            satisfiable(&mut self.oracle, Level::ROOT, under)
         });
         held.count()
     }

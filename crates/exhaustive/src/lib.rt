@@ -64,8 +64,7 @@ impl Oracle for Exhaustive {
             return Err(under);
         }
         let entries = self.store.entries(level);
-        let decided = under.within.union(under.without);
-        let free = named(entries).difference(decided);
+        let free = named(entries).intersection(under.undecided());
         find(entries, free, under.within).ok_or(under)
     }
 

@@ -2,7 +2,7 @@
 use Rattle.std.proofs.lemmas.Grind.{common_steps}
 use Rattle.std.proofs.lemmas.Bool.Decides.{nat_tests}
 use Rattle.std.proofs.Common.{◌≡◌, ℕ, suc, ◌+◌, ◌<◌, ◌≤◌, Bool, true, List, ◌++◌, length, get_or, drop, sym, ap, ◌∙◌, ap₂, append_assoc, arith, length-append}
-use Rattle.std.proofs.lemmas.List.{drop_more}
+use Rattle.std.proofs.lemmas.List.{append-nil, drop_all, drop_more}
 use Rattle.clausal.proofs.Modals.{modals_length}
 use Rattle.clausal.proofs.Rows.{Below, lawful_rows, shape_below}
 use Rattle.modal.specs.Rows.{lawful}
@@ -22,6 +22,9 @@ module _ {A : Type 0} (f : ℕ → Name → List A) (m : ℕ) (xs : List Name) (
       let n : suc (16 + (m + i)) ≡ 16 + (m + (i + 1)) = omega arith in
       let d : gather f (16 + (m + i)) (drop i xs) ≡ f (16 + (m + i)) x ++ gather f (16 + (m + (i + 1))) (drop (i + 1) xs) = ap (gather f (16 + (m + i))) (drop_more xs i free h) ∙ ap₂ (λ y k. f (16 + (m + i)) y ++ gather f k (drop (i + 1) xs)) e n in
       ap (λ t. t ++ gather f (16 + (m + (i + 1))) (drop (i + 1) xs)) q ∙ (append_assoc o (f (16 + (m + i)) x) (gather f (16 + (m + (i + 1))) (drop (i + 1) xs)) ∙ (ap (λ t. o ++ t) (sym d) ∙ inv))
+
+  pub whole_end : length xs ≤ i → o ≡ w
+  whole_end h = sym (append-nil o) ∙ (ap (λ t. o ++ gather f (16 + (m + i)) t) (sym (drop_all i xs h)) ∙ inv)
 
 pub own_two : (xs : List Name) (r : ℕ) (rows : List Row) (n : ℕ) (x : Name) → length (clauses_own xs r rows n x) ≤ 2
 own_two v1 v2 v3 v4 v5 = grind (arith, common_steps, nat_tests)

@@ -2,7 +2,7 @@
 -- the marks and the test
 use Rattle.std.proofs.lemmas.Grind.{common_steps}
 use Rattle.std.proofs.lemmas.Bool.Decides.{nat_tests}
-use Rattle.std.proofs.Common.{◌≡◌, ℕ, zero, suc, ◌+◌, ◌*◌, ◌/◌, ◌<◌, ◌≤◌, Bool, true, false, cond, ◌||◌, eqb, List, [], ◌∷◌, ◌++◌, map, length, get_or, filter, count_by, Some, None, sym, refl, ap, ◌∙◌, subst, inl, inr, zero-add, arith, length-append}
+use Rattle.std.proofs.Common.{◌≡◌, ℕ, zero, suc, ◌+◌, ◌*◌, ◌/◌, ◌<◌, ◌≤◌, Bool, true, false, cond, ◌||◌, eqb, List, [], ◌∷◌, ◌++◌, map, length, get_or, filter, count_by, Some, None, sym, refl, ap, ◌∙◌, subst, inl, inr, zero-add, arith}
 use Rattle.std.specs.List.{range_with_len, find}
 use Rattle.std.proofs.lemmas.List.FromFn.{map-range_with_len_more, length-range_with_len, get_or-range_with_len}
 use Rattle.std.proofs.lemmas.List.Sums.{length-filter}
@@ -24,7 +24,6 @@ use Rattle.lists.specs.Lists.{In, Once, first_at, here, some, there}
 use Rattle.modal.specs.Rows.{lawful}
 use Rattle.modal.specs.declared.row.Row.{Row}
 use Rattle.modal.specs.declared.row.Row.TheVariants.{False}
-use Rattle.std.proofs.lemmas.List.Elements.{filter-append}
 
 pub reaches_reached : (rows : List Row) (n : ℕ) → reaches rows n ≡ true → Reached rows (place_numbered n)
 unfolding reaches
@@ -56,15 +55,6 @@ reaches_row rows ok n e = (reached_ok rows (lawful_rows rows ok) (reaches_reache
 
 pub counting_more : (a n : ℕ) → range_with_len a (n + 1) ≡ range_with_len a n ++ ((a + n) ∷ [])
 counting_more a n = sym (map-id (range_with_len a (n + 1))) ∙ (map-range_with_len_more (λ x. x) a n (a + n) refl ∙ ap (λ xs. xs ++ ((a + n) ∷ [])) (map-id (range_with_len a n)))
-
--- the takers as far as one number more
-pub takers_none : (rows : List Row) (l : ℕ) → takers rows l 0 ≡ []
-unfolding takers
-takers_none rows l = refl
-
-pub takers_more : (rows : List Row) (l i : ℕ) (b : Bool) → b ≡ takes rows (l * 128 + i) → takers rows l (i + 1) ≡ takers rows l i ++ cond b ((l * 128 + i) ∷ []) []
-unfolding takers
-takers_more rows l i b e = ap (filter (takes rows)) (counting_more (l * 128) i) ∙ (filter-append (takes rows) (range_with_len (l * 128) i) ((l * 128 + i) ∷ []) ∙ ap (λ c. filter (takes rows) (range_with_len (l * 128) i) ++ cond c ((l * 128 + i) ∷ []) []) (sym e))
 
 pub takers_by : (rows : List Row) (l : ℕ) → count_by (takes rows) (range_with_len (l * 128) 128) ≡ length (takers rows l 128)
 unfolding takers
@@ -173,10 +163,3 @@ no_level p e l h = grind (arith, common_steps, nat_tests)
 
 pub no_first : (p : ℕ → Bool) → None ≡ find p (range_with_len 0 8) → first_at p (range_with_len 0 8) ≡ 8
 no_first p e = grind (arith, common_steps, nat_tests)
-
-pub takers_count : (rows : List Row) (l i : ℕ) (b : Bool) → b ≡ takes rows (l * 128 + i) → length (takers rows l (i + 1)) ≡ length (takers rows l i) + cond b 1 0
-takers_count rows l i b e = ap length (takers_more rows l i b e) ∙ (length-append (takers rows l i) _ ∙ ap (λ n. length (takers rows l i) + n) (go b))
-  where
-    go : (b : Bool) → length (cond b ((l * 128 + i) ∷ []) []) ≡ cond b 1 0
-    go true = refl
-    go false = refl

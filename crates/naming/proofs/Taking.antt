@@ -1,8 +1,10 @@
 -- A rule taken in at every level.
 use Rattle.std.proofs.lemmas.Grind.{common_steps}
 use Rattle.std.proofs.lemmas.Bool.Decides.{nat_tests}
-use Rattle.std.proofs.Common.{◌≡◌, ℕ, suc, ◌+◌, ◌-◌, ◌<◌, ◌≤◌, List, [], ◌++◌, map, length, get_or, set, take, drop, sym, refl, ap, ◌∙◌, subst, subst₂, ap₂, inl, inr, arith, length-append}
-use Rattle.std.proofs.lemmas.List.{get_or_past, drop_at, take_all, length-map}
+use Rattle.std.proofs.Common.{◌≡◌, ℕ, suc, ◌+◌, ◌<◌, ◌≤◌, List, [], ◌++◌, map, length, get_or, set, drop, sym, refl, ap, ◌∙◌, subst, subst₂, ap₂, inl, inr, arith}
+use Rattle.std.proofs.lemmas.List.{get_or_past, get_or_default, get_or-drop, drop_at, length-drop, length-map}
+use Rattle.std.proofs.lemmas.List.FromFn.{length-enumerate_from, get_or-enumerate_from}
+use Rattle.std.specs.List.{enumerate_from}
 use Rattle.std.proofs.lemmas.Bool.{cases_eq, cases_lt}
 use Rattle.clausal.proofs.Rows.{Lawful}
 use Rattle.clausal.specs.Clausal.{boxed, diamonded, gather}
@@ -30,11 +32,17 @@ module _ (r : ℕ) (rows : List Row) (ok : Lawful rows) (l : ℕ) where
     | inr k ↦ subst (InRule rows) (sym (get_or_past (names_for r rows l) i free k)) tt
   ]
 
--- the slots from the old length on are the new ones
-pub taken_slots : (n n' o : List Name) (m : ℕ) → m ≡ length n → n' ≡ n ++ o → take (length n' - m) (drop m n') ≡ o
-taken_slots n n' o m e q =
-    let z : drop m n' ≡ o = ap₂ drop e q ∙ drop_at n o (length n) refl in
-    ap (take (length n' - m)) z ∙ take_all (length n' - m) o (omega (arith, ap length q, length-append n o))
+-- the names from the old length on are the new ones
+pub taken_names : (n n' o : List Name) (m : ℕ) → m ≡ length n → n' ≡ n ++ o → drop m n' ≡ o
+taken_names n n' o m e q = ap₂ drop e q ∙ drop_at n o (length n) refl
+
+-- the n-th item that comes from a list gone over with its indices, but for the first m
+pub indexed_item : {A : Type 0} (m n : ℕ) (xs : List A) (p : ℕ × A) (d : A) → n < length (drop m (enumerate_from 0 xs)) → p ≡ get_or (drop m (enumerate_from 0 xs)) n p → (n < length (drop m xs)) × (p.0 ≡ m + n) × (get_or (drop m xs) n d ≡ p.1)
+indexed_item {A = A} m n xs p d h e =
+    let all : length (enumerate_from 0 xs) ≡ length xs = length-enumerate_from 0 xs in
+    let within : m + n < length xs = omega (arith, length-drop m (enumerate_from 0 xs)) in
+    let q : p ≡ (0 + (m + n), get_or xs (m + n) p.1) = e ∙ get_or-drop m (enumerate_from 0 xs) n p ∙ get_or-enumerate_from 0 xs (m + n) p within in
+    (omega (arith, length-drop m xs), ap (λ (z : ℕ × A). z.0) q ∙ omega arith, get_or-drop m xs n d ∙ get_or_default xs (m + n) d p.1 within ∙ sym (ap (λ (z : ℕ × A). z.1) q))
 
 -- beyond the last level nothing is taken
 pub taken_beyond : (r : ℕ) (rows : List Row) → Lawful rows → (l : ℕ) (further : List Name) → 8 ≤ l → TakenAt r rows l further no_lists no_lists []

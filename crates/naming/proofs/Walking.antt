@@ -2,7 +2,7 @@
 -- how many are marked
 use Rattle.std.proofs.lemmas.Grind.{common_steps}
 use Rattle.std.proofs.lemmas.Bool.Decides.{nat_tests}
-use Rattle.std.proofs.Common.{◌≡◌, ℕ, zero, suc, ◌+◌, ◌<◌, ◌≤◌, Bool, true, false, cond, ltb, not, ◌⊎◌, List, [], ◌∷◌, ◌++◌, length, get_or, set, replicate, sym, refl, ap, ◌∙◌, subst, inl, inr, arith}
+use Rattle.std.proofs.Common.{◌≡◌, ℕ, zero, suc, ◌+◌, ◌<◌, ◌≤◌, Bool, true, false, cond, ltb, not, ◌⊎◌, List, [], ◌∷◌, ◌++◌, length, get_or, set, replicate, sym, refl, ◌∙◌, subst, inl, inr, arith}
 use mathlib.Core.Bool.{false≢true}
 use Rattle.std.proofs.lemmas.List.{get_or-set_same, get_or-set_other, length-set, get_or_past, length-replicate}
 use Rattle.std.proofs.lemmas.Bool.{cases_eq, cases_lt, both_ways, lt-ltb, cond-true}
@@ -37,11 +37,6 @@ marked_more (true ∷ m) zero h e = absurd (false≢true (sym e))
 marked_more (false ∷ m) zero h e = omega arith
 marked_more (true ∷ m) (suc n) h e = let k = marked_more m n (omega arith) e in omega arith
 marked_more (false ∷ m) (suc n) h e = let k = marked_more m n (omega arith) e in omega arith
-
-pub marked_same : (m : List Bool) (n : ℕ) → get_or m n false ≡ true → set m n true ≡ m
-marked_same [] n e = refl
-marked_same (b ∷ m) zero e = ap (λ c. c ∷ m) (sym e)
-marked_same (b ∷ m) (suc n) e = ap (λ c. b ∷ c) (marked_same m n e)
 
 -- a stack with an entry for some of the marked numbers has room for one that is not marked
 pub put : (m : List Bool) (n : ℕ) (s t slots : List ℕ) → n < length m → get_or m n false ≡ false → length slots ≡ length m → length s ≤ marked m → t ≡ cond (ltb (length s) (length slots)) (s ++ n ∷ []) s → t ≡ s ++ n ∷ []

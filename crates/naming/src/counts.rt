@@ -8,14 +8,11 @@ ghost use Rattle.naming.specs.Order.{takes, crowds};
 use crate::level_table::LevelTable;
 use crate::numbers::{LEVEL, place_of};
 use crate::reached::ReachedRule;
-use atoms::levels::Level;
+use atoms::levels::{LEVELS, Level};
 use modal::row::Row;
 
 // How many names a level has.
 const NAMES: usize = 48;
-
-// How many levels there are.
-pub(crate) const LEVELS: usize = Level::ALL.len();
 
 fn takes_name(row: Row) -> bool
     ensures { result ≡ wants_name row }
@@ -54,7 +51,7 @@ impl ReachedRule<'_> {
         ensures small { result ≤ 129 }
     {
         let handles = usize::from(level == Level::ROOT);
-        self.takers(level.index() * LEVEL) + handles
+        self.takers(usize::from(level) * LEVEL) + handles
     }
 
     // The lowest level that would have too many names.
@@ -64,7 +61,7 @@ impl ReachedRule<'_> {
         Level::ALL.iter().copied().find(
             |level|
                 ensures { result ≡ crowds levels.entry.now self.entry.now.rows.now level.now }
-            { levels[level.index()].names.len() + self.names_taken(*level) > NAMES },
+            { levels[usize::from(*level)].names.len() + self.names_taken(*level) > NAMES },
         )
     }
 }

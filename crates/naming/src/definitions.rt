@@ -2,9 +2,8 @@
 ghost use Rattle.naming.specs.Tables.{definitions_at};
 ghost use Rattle.std.specs.Prelude.{◌≡◌};
 
-use crate::counts::LEVELS;
 use atoms::clauses::Clause;
-use atoms::levels::Level;
+use atoms::levels::{LEVELS, Level};
 use fixed_list::ArrayVec;
 
 /// The definitions that one rule gives at one level: at most two for each name.
@@ -21,6 +20,6 @@ impl Definitions {
     pub fn at(&self, level: Level) -> &[Clause]
         ensures { result.now ≡ definitions_at self.now level }
     {
-        self.levels[level.index()].as_slice()
+        self.levels[usize::from(level)].as_slice()
     }
 }

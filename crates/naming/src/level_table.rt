@@ -9,12 +9,11 @@ ghost use Rattle.naming.specs.Names.{clauses_own, modal_own, lit_in, InRule, Sha
 ghost use Rattle.naming.specs.TakenIn.{TakenAt, TakenIn};
 
 use crate::clauses::{implies, implies_either};
-use crate::counts::LEVELS;
 use crate::definitions::LevelClauses;
 use crate::names::{FIRST_NAME, Names};
 use crate::reached::ReachedRule;
 use atoms::clauses::{Clause, Literal};
-use atoms::levels::Level;
+use atoms::levels::{LEVELS, Level};
 use clausal::modal_clauses::ModalClause;
 use clausal::names::Name;
 use clausal::shapes::Shape;
@@ -71,6 +70,10 @@ impl LevelTable {
         ensures boxes { items_of self.new.boxes ≡ items_of self.old.boxes ++ modals n (lit_in (items_of further.now) rule.now.number rule.now.rows.now plus) (boxed shape) }
         ensures diamonds { items_of self.new.diamonds ≡ items_of self.old.diamonds ++ modals n (lit_in (items_of further.now) rule.now.number rule.now.rows.now plus) (diamonded shape) }
     {
+        let modal = |c: u8| ModalClause {
+            name: n,
+            literal: rule.literal(further, c, plus),
+        };
         match shape {
             Shape::Plain => {}
             Shape::Both(c, e) => {
@@ -84,16 +87,8 @@ impl LevelTable {
                 let y = rule.literal(&self.names, e, plus);
                 definitions.push(implies_either(n, x, y)).unwrap();
             }
-            Shape::All(c) => {
-                let literal = rule.literal(further, c, plus);
-                self.boxes.push(ModalClause { name: n, literal }).unwrap();
-            }
-            Shape::One(c) => {
-                let literal = rule.literal(further, c, plus);
-                self.diamonds
-                    .push(ModalClause { name: n, literal })
-                    .unwrap();
-            }
+            Shape::All(c) => self.boxes.push(modal(c)).unwrap(),
+            Shape::One(c) => self.diamonds.push(modal(c)).unwrap(),
         }
     }
 
@@ -140,10 +135,9 @@ impl LevelTable {
         rule.name_level(level, &mut self.names);
         // a copy, since clauses are written beside the names while these are gone over
         let names = self.names;
-        let taken = &names.as_slice()[from..];
         let mut definitions = ArrayVec::new(Clause::NONE);
-        for (i, name) in taken.iter().enumerate() {
-            let n = FIRST_NAME + (from + i) as u8;
+        for (i, name) in names.as_slice().iter().enumerate().skip(from) {
+            let n = FIRST_NAME + i as u8;
             self.give(rule, further, n, *name, &mut definitions);
         }
         definitions

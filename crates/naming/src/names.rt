@@ -37,17 +37,15 @@ impl ReachedRule<'_> {
         ensures { items_of names.new ≡ items_of names.old ++ names_for self.now.number self.now.rows.now level }
     {
         let rule = self.number;
-        let first = level.index() * LEVEL;
-        for n in first..first + LEVEL {
-            if self.is_taker(n) {
-                let place = place_of(n);
-                let name = Name::Place {
-                    rule,
-                    row: place.row,
-                    plus: place.plus,
-                };
-                names.push(name).unwrap();
-            }
+        let first = usize::from(level) * LEVEL;
+        for n in (first..first + LEVEL).filter(|n| self.is_taker(*n)) {
+            let place = place_of(n);
+            let name = Name::Place {
+                rule,
+                row: place.row,
+                plus: place.plus,
+            };
+            names.push(name).unwrap();
         }
         if level == Level::ROOT {
             names.push(Name::Handle(rule)).unwrap();

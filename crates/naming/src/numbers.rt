@@ -18,7 +18,7 @@ pub(crate) fn number(place: Place) -> usize
     ensures small { result < 1024 }
     ensures back { place_numbered result ≡ place }
 {
-    place.level.index() * LEVEL + usize::from(place.row) * 2 + usize::from(!place.plus)
+    usize::from(place.level) * LEVEL + usize::from(place.row) * 2 + usize::from(!place.plus)
 }
 
 pub(crate) fn place_of(n: usize) -> Place

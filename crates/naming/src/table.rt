@@ -6,12 +6,11 @@ ghost use Rattle.modal.specs.Rows.{lawful};
 ghost use Rattle.naming.specs.Levels.{names_at, boxes_at, diamonds_at, held_rules, named_state};
 ghost use Rattle.naming.specs.Names.{names_from};
 
-use crate::counts::LEVELS;
 use crate::definitions::Definitions;
 use crate::level_table::{LevelTable, take_in};
 use crate::names::atom_of;
 use crate::reached::ReachedRule;
-use atoms::levels::Level;
+use atoms::levels::{LEVELS, Level};
 use clausal::faults::AddFault;
 use clausal::modal_clauses::ModalClause;
 use clausal::names::Name;
@@ -100,7 +99,7 @@ impl Table {
     pub fn handle(&self, number: u8) -> Option<u8>
         ensures { MatchOption result (length (rules_in self.now) ≤ number) (λ a. HandleIs self.now number a) }
     {
-        let names = &self.levels[Level::ROOT.index()].names;
+        let names = &self.levels[usize::from(Level::ROOT)].names;
         atom_of(names, Name::Handle(number))
     }
 
@@ -110,7 +109,7 @@ impl Table {
         ensures value { result.now ≡ boxes_in self.now level }
         ensures orderly { Orderly level result.now }
     {
-        self.levels[level.index()].boxes.as_slice()
+        self.levels[usize::from(level)].boxes.as_slice()
     }
 
     /// The diamond clauses of the level, by rising name.
@@ -118,6 +117,6 @@ impl Table {
         ensures value { result.now ≡ diamonds_in self.now level }
         ensures orderly { Orderly level result.now }
     {
-        self.levels[level.index()].diamonds.as_slice()
+        self.levels[usize::from(level)].diamonds.as_slice()
     }
 }

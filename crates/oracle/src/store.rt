@@ -7,12 +7,10 @@ use crate::entry_list::EntryList;
 use atoms::clauses::Entry;
 use atoms::levels::{LEVELS, Level};
 
-const COUNT: usize = LEVELS as usize;
-
 /// The entries of every level, in fixed memory.
 #[derive(Drop)]
 pub struct Store {
-    levels: [EntryList; COUNT],
+    levels: [EntryList; LEVELS],
 }
 
 impl Store {
@@ -21,7 +19,7 @@ impl Store {
         ensures { Clears (entries_of result) }
     {
         Store {
-            levels: [EntryList::empty(); COUNT],
+            levels: [EntryList::empty(); LEVELS],
         }
     }
 
@@ -29,7 +27,7 @@ impl Store {
     pub fn take(&mut self, level: Level, entry: Entry) -> Result<(), LevelFull>
         ensures { Taken (entries_of self.old) (entries_of self.new) level entry result }
     {
-        self.levels[level.index()].take(entry)
+        self.levels[usize::from(level)].take(entry)
     }
 
     /// Drops the learnt entries of every level, and leaves the definitions in their order.
@@ -52,6 +50,6 @@ impl Store {
     pub fn entries(&self, level: Level) -> &[Entry]
         ensures { result.now ≡ entries_of self.now level }
     {
-        self.levels[level.index()].held()
+        self.levels[usize::from(level)].held()
     }
 }

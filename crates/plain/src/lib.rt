@@ -40,9 +40,7 @@ fn count(entries: &[Entry], under: Assumptions) -> Option<AtomSet>
     if under.clashes() {
         return None;
     }
-    let free = named(entries)
-        .difference(under.within)
-        .difference(under.without);
+    let free = named(entries).intersection(under.undecided());
     let mut counted = AtomSet::NONE;
     // With a label, as a valuation is to be dropped at the first entry that it makes false.
     'next: loop {

@@ -23,9 +23,9 @@ fn judge(clause: Clause, trail: Assumptions) -> Status
     if !plain_true.union(negated_true).is_empty() {
         return Status::Open;
     }
-    let decided = trail.within.union(trail.without);
-    let plain = clause.plain.difference(decided);
-    let negated = clause.negated.difference(decided);
+    let undecided = trail.undecided();
+    let plain = clause.plain.intersection(undecided);
+    let negated = clause.negated.intersection(undecided);
     match (plain.is_empty(), negated.is_empty()) {
         (true, true) => Status::Conflict,
         (false, true) => sole(plain).map_or(

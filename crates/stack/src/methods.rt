@@ -67,11 +67,7 @@ impl<'a, T: Copy> Stack<'a, T> {
         ensures entries { entries_of self.now ≡ below_top self.now ++ option_to_list result }
         ensures some { is_some result ≡ nat_lt 0 (length (entries_of self.now)) }
     {
-        if self.len == 0 {
-            return None;
-        }
-        let slots = &self.slots[..];
-        Some(slots[self.len - 1])
+        self.slots[..self.len].last().copied()
     }
 
     /// Puts `x` in the place of the top. If the stack is empty, `x` is handed back.

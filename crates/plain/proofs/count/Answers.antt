@@ -1,8 +1,7 @@
-use Rattle.std.proofs.Common.{◌≡◌, ℕ, ◌-◌, ◌^◌, ◌<◌, ◌≤◌, true, not, ◌&&◌, List, sym, ap, ◌∙◌, subst, arith}
+use Rattle.std.proofs.Common.{◌≡◌, ℕ, ◌-◌, ◌^◌, ◌<◌, ◌≤◌, true, List, sym, ap, ◌∙◌, subst, arith}
 use Rattle.std.proofs.lemmas.Bool.{both_ways}
-use Rattle.std.proofs.lemmas.Bool.Decides.{nat_tests}
 use Rattle.std.proofs.lemmas.List.{take_all}
-use Rattle.atoms.specs.Clauses.{Valuation, makes_all, names}
+use Rattle.atoms.specs.Clauses.{Valuation, makes_all}
 use Rattle.atoms.specs.Sets.{has}
 use Rattle.atoms.specs.declared.assumptions.Assumptions.{Assumptions}
 use Rattle.atoms.specs.declared.clauses.Entry.{Entry}
@@ -10,8 +9,9 @@ use Rattle.atoms.specs.declared.sets.AtomSet.{AtomSet}
 use Rattle.atoms.proofs.Members.{has_none}
 use Rattle.atoms.proofs.Making.{blank}
 use Rattle.atoms.proofs.Obeying.{Follows, obeys_follows, follows_obeys, clash_never}
+use Rattle.atoms.proofs.Restricting.{free_named}
 use Rattle.oracle.specs.Oracles.{Unsatisfiable}
-use Rattle.plain.specs.Counts.{Part, counted_over, NextPart}
+use Rattle.plain.specs.Counts.{Part, NextPart}
 use Rattle.plain.proofs.Counting.{part_le}
 use Rattle.plain.proofs.Completing.{complete, counted_follows, failed_here, fail_more, fail_all, first}
 use Rattle.plain.proofs.count.Goals as goal
@@ -28,11 +28,6 @@ returns-then-clashes c =
 pub next-init : goal.next-init
 next-init c = (λ i h. absurd (both_ways _ (has_none i) h), (λ u lu p l. absurd (let z : ⊥ = omega arith in z)), omega arith)
 
--- the free atoms
-free_is : (es : List Entry) (w : Assumptions) (n m f : AtomSet) → ((i : ℕ) → has n i ≡ names es i) → ((i : ℕ) → has m i ≡ has n i && not (has w.within i))
-    → ((i : ℕ) → has f i ≡ has m i && not (has w.without i)) → (i : ℕ) → has f i ≡ counted_over es w i
-free_is es w n m f a b d i = grind (arith, nat_tests, a i, b i, d i)
-
 falls : (u v m f : AtomSet) → u ≡ v → f.bits < 2 ^ 64 → m.bits < 2 ^ 64 → NextPart u.bits f.bits m.bits → f.bits - m.bits < f.bits - v.bits
 falls u v m f e lf lm n =
     let le = part_le 64 m.bits f.bits lm n.part in
@@ -41,7 +36,7 @@ falls u v m f e lf lm n =
     omega arith
 
 pub next-smaller : goal.next-smaller
-next-smaller c = falls c.loop-entry.counted c.next.counted c.in_ok-counted.counted c.difference-free.result c.loop-entry.invariant.1 (omega arith) (omega arith) c.in_ok-counted.ensures
+next-smaller c = falls c.loop-entry.counted c.next.counted c.in_ok-counted.counted c.intersection-free.result c.loop-entry.invariant.1 (omega arith) (omega arith) c.in_ok-counted.ensures
 
 least : (u v f m : AtomSet) → u ≡ v → NextPart u.bits f.bits m.bits → (n : ℕ) → n < 2 ^ 64 → Part n f.bits → v.bits < n → m.bits ≤ n
 least u v f m e h = subst (λ (s : AtomSet). (n : ℕ) → n < 2 ^ 64 → Part n f.bits → s.bits < n → m.bits ≤ n) e h.least
@@ -50,36 +45,36 @@ pub next-preserved : goal.next-preserved
 next-preserved c =
     let v : AtomSet = c.next.counted in (
       c.in_ok-counted.ensures.part,
-      fail_more c.args.entries.now c.args.under c.difference-free.result.bits v.bits c.in_ok-counted.counted.bits c.next.invariant.1
+      fail_more c.args.entries.now c.args.under c.intersection-free.result.bits v.bits c.in_ok-counted.counted.bits c.next.invariant.1
           (failed_here c.args.entries.now c.args.under v.bits c.union-valuation.result c.loop-entry.entry-index blank c.loop-entry-test.true
           c.union-valuation.ensures c.if-not-holds.ensures)
-          (least c.loop-entry.counted v c.difference-free.result c.in_ok-counted.counted c.loop-entry.invariant.1 c.in_ok-counted.ensures),
+          (least c.loop-entry.counted v c.intersection-free.result c.in_ok-counted.counted c.loop-entry.invariant.1 c.in_ok-counted.ensures),
       omega arith,
     )
 
 pub returns-in_err-counted : goal.returns-in_err-counted
 returns-in_err-counted c =
     let v : AtomSet = c.next.counted in
-    let f = free_is c.args.entries.now c.args.under c.named.result c.difference.result c.difference-free.result c.named.ensures c.difference.ensures c.difference-free.ensures in
-    let last : v.bits ≡ c.difference-free.result.bits = ap (λ (s : AtomSet). s.bits) (sym c.loop-entry.invariant.1) ∙ c.in_err-counted.ensures in
+    let f = free_named c.args.entries.now c.args.under c.named.result c.undecided.result c.intersection-free.result (omega arith) c.named.ensures c.undecided.ensures c.intersection-free.ensures in
+    let last : v.bits ≡ c.intersection-free.result.bits = ap (λ (s : AtomSet). s.bits) (sym c.loop-entry.invariant.1) ∙ c.in_err-counted.ensures in
     let k : Unsatisfiable c.args.under c.args.entries.now =
-    unsatisfiable c.args.under c.args.entries.now (complete c.args.entries.now c.args.under c.difference-free.result.bits f
-    (fail_all c.args.entries.now c.args.under c.difference-free.result.bits v.bits last c.next.invariant.1
+    unsatisfiable c.args.under c.args.entries.now (complete c.args.entries.now c.args.under c.intersection-free.result.bits f
+    (fail_all c.args.entries.now c.args.under c.intersection-free.result.bits v.bits last c.next.invariant.1
     (failed_here c.args.entries.now c.args.under v.bits c.union-valuation.result c.loop-entry.entry-index blank c.loop-entry-test.true
     c.union-valuation.ensures c.if-not-holds.ensures))) in
     rw c.from_residual.ensures (record { finds = k; order = k })
 
 pub returns-in-next : goal.returns-in-next
 returns-in-next c =
-    let f = free_is c.args.entries.now c.args.under c.named.result c.difference.result c.difference-free.result c.named.ensures c.difference.ensures c.difference-free.ensures in
+    let f = free_named c.args.entries.now c.args.under c.named.result c.undecided.result c.intersection-free.result (omega arith) c.named.ensures c.undecided.ensures c.intersection-free.ensures in
     let m : makes_all (has c.union-valuation.result) c.args.entries.now ≡ true =
     subst (λ (es : List Entry). makes_all (has c.union-valuation.result) es ≡ true) (take_all _ _ c.loop-entry-test.false) c.loop-entry.invariant.0 in
     record {
       finds = record {
-        obeyed = follows_obeys (has c.union-valuation.result) c.args.under (counted_follows c.args.entries.now c.args.under c.difference-free.result.bits c.next.counted.bits c.union-valuation.result
+        obeyed = follows_obeys (has c.union-valuation.result) c.args.under (counted_follows c.args.entries.now c.args.under c.intersection-free.result.bits c.next.counted.bits c.union-valuation.result
             (c.clashes.ensures.apart c.if-clashes.false) f c.next.invariant.0 c.union-valuation.ensures);
         made = m;
       };
-      order = first c.args.entries.now c.args.under c.difference-free.result.bits c.next.counted.bits c.union-valuation.result.bits (omega arith) (omega arith) c.next.invariant.2
+      order = first c.args.entries.now c.args.under c.intersection-free.result.bits c.next.counted.bits c.union-valuation.result.bits (omega arith) (omega arith) c.next.invariant.2
           f c.next.invariant.0 c.union-valuation.ensures m c.next.invariant.1;
     }

@@ -1,24 +1,21 @@
 use Rattle.std.proofs.Common.{rules, ◌≡◌, ℕ, ◌^◌, ◌<◌, Bool, true, false, not, ◌&&◌, ◌||◌, eqb, Some, None, Option, MatchOption, sym, refl, ◌∙◌, subst, arith}
 use Rattle.std.proofs.lemmas.Bool.Decides.{nat_tests}
-use Rattle.atoms.specs.Assuming.{settled}
 use Rattle.atoms.specs.Sets.{has}
 use Rattle.atoms.specs.declared.assumptions.Assumptions.{Assumptions}
 use Rattle.atoms.specs.declared.clauses.Clause.{Clause}
 use Rattle.atoms.specs.declared.sets.AtomSet.{AtomSet}
 use Rattle.atoms.proofs.Members.{has_high}
+use Rattle.atoms.proofs.Obeying.{undecided_of}
 use Rattle.search.specs.Judging.{true_at, open_at, Sole, Judged, Forces}
 use Rattle.search.specs.declared.status.Status.{Status}
 use Rattle.search.specs.declared.status.Status.TheVariants.{Forced, Open}
 use Rattle.search.proofs.Clausewise.{all_out, leaves_met, leaves_both, leaves_many, signed}
 use Rattle.search.proofs.judging.judge.Goals as goal
 
--- the set of the atoms of true literals, and a set of undecided atoms, as the code computes them
+-- the set of the atoms of true literals, as the code computes it
 true_is : (w : Assumptions) (c : Clause) (p n r : AtomSet) → ((i : ℕ) → has p i ≡ has c.plain i && has w.within i) → ((i : ℕ) → has n i ≡ has c.negated i && has w.without i)
     → ((i : ℕ) → has r i ≡ has p i || has n i) → (i : ℕ) → has r i ≡ true_at w c i
 true_is w c p n r a b d i = let x = a i in let y = b i in let z = d i in cc
-
-open_is : (w : Assumptions) (s d r : AtomSet) → ((i : ℕ) → has d i ≡ settled w i) → ((i : ℕ) → has r i ≡ has s i && not (has d i)) → (i : ℕ) → open_at w s i ≡ has r i
-open_is w s d r a b i = let x = a i in let y = b i in cc
 
 -- a set with a member has one below 64
 some_open : (w : Assumptions) (s r : AtomSet) → r.bits < 2 ^ 64 → ((i : ℕ) → open_at w s i ≡ has r i) → (((i : ℕ) → has r i ≡ false) → false ≡ true)
@@ -52,26 +49,26 @@ pub returns-in-false-true : goal.returns-in-false-true
 returns-in-false-true c =
     let m = true_is c.args.trail c.args.clause c.intersection-plain_true.result c.intersection-negated_true.result c.union.result
     c.intersection-plain_true.ensures c.intersection-negated_true.ensures c.union.ensures in
-    let p = open_is c.args.trail c.args.clause.plain c.union-decided.result c.difference-plain.result c.union-decided.ensures c.difference-plain.ensures in
-    let n = open_is c.args.trail c.args.clause.negated c.union-decided.result c.difference-negated.result c.union-decided.ensures c.difference-negated.ensures in
-    one_sign true c.args.trail c.args.clause c.difference-plain.result c.sole-in-false-true.result c.map_or-in-false-true.result (omega arith)
-    (λ a. sym (m a) ∙ c.is_empty.ensures.all c.if-not-is_empty.false a) p (λ a. n a ∙ c.in-false-true.ensures'.all refl a) c.in-false-true.ensures.some
+    let p = undecided_of c.args.trail c.args.clause.plain c.undecided-undecided.result c.intersection-plain.result (omega arith) c.undecided-undecided.ensures c.intersection-plain.ensures in
+    let n = undecided_of c.args.trail c.args.clause.negated c.undecided-undecided.result c.intersection-negated.result (omega arith) c.undecided-undecided.ensures c.intersection-negated.ensures in
+    one_sign true c.args.trail c.args.clause c.intersection-plain.result c.sole-in-false-true.result c.map_or-in-false-true.result (omega arith)
+    (λ a. sym (m a) ∙ c.is_empty.ensures.all c.if-not-is_empty.false a) (λ a. sym (p a)) (λ a. sym (n a) ∙ c.in-false-true.ensures'.all refl a) c.in-false-true.ensures.some
     c.sole-in-false-true.ensures (λ e. search rules) (λ a e. search rules)
 
 pub returns-in-true-false : goal.returns-in-true-false
 returns-in-true-false c =
     let m = true_is c.args.trail c.args.clause c.intersection-plain_true.result c.intersection-negated_true.result c.union.result
     c.intersection-plain_true.ensures c.intersection-negated_true.ensures c.union.ensures in
-    let p = open_is c.args.trail c.args.clause.plain c.union-decided.result c.difference-plain.result c.union-decided.ensures c.difference-plain.ensures in
-    let n = open_is c.args.trail c.args.clause.negated c.union-decided.result c.difference-negated.result c.union-decided.ensures c.difference-negated.ensures in
-    one_sign false c.args.trail c.args.clause c.difference-negated.result c.sole.result c.map_or.result (omega arith)
-    (λ a. sym (m a) ∙ c.is_empty.ensures.all c.if-not-is_empty.false a) n (λ a. p a ∙ c.in-true-false.ensures.all refl a) c.in-true-false.ensures'.some
+    let p = undecided_of c.args.trail c.args.clause.plain c.undecided-undecided.result c.intersection-plain.result (omega arith) c.undecided-undecided.ensures c.intersection-plain.ensures in
+    let n = undecided_of c.args.trail c.args.clause.negated c.undecided-undecided.result c.intersection-negated.result (omega arith) c.undecided-undecided.ensures c.intersection-negated.ensures in
+    one_sign false c.args.trail c.args.clause c.intersection-negated.result c.sole.result c.map_or.result (omega arith)
+    (λ a. sym (m a) ∙ c.is_empty.ensures.all c.if-not-is_empty.false a) (λ a. sym (n a)) (λ a. sym (p a) ∙ c.in-true-false.ensures.all refl a) c.in-true-false.ensures'.some
     c.sole.ensures (λ e. search rules) (λ a e. search rules)
 
 pub returns-in-false-false : goal.returns-in-false-false
 returns-in-false-false c =
-    let p = open_is c.args.trail c.args.clause.plain c.union-decided.result c.difference-plain.result c.union-decided.ensures c.difference-plain.ensures in
-    let n = open_is c.args.trail c.args.clause.negated c.union-decided.result c.difference-negated.result c.union-decided.ensures c.difference-negated.ensures in
+    let p = undecided_of c.args.trail c.args.clause.plain c.undecided-undecided.result c.intersection-plain.result (omega arith) c.undecided-undecided.ensures c.intersection-plain.ensures in
+    let n = undecided_of c.args.trail c.args.clause.negated c.undecided-undecided.result c.intersection-negated.result (omega arith) c.undecided-undecided.ensures c.intersection-negated.ensures in
     leaves_both c.args.trail c.args.clause
-    (some_open c.args.trail c.args.clause.plain c.difference-plain.result (omega arith) p c.in-false-false.ensures.some)
-    (some_open c.args.trail c.args.clause.negated c.difference-negated.result (omega arith) n c.in-false-false.ensures'.some)
+    (some_open c.args.trail c.args.clause.plain c.intersection-plain.result (omega arith) (λ a. sym (p a)) c.in-false-false.ensures.some)
+    (some_open c.args.trail c.args.clause.negated c.intersection-negated.result (omega arith) (λ a. sym (n a)) c.in-false-false.ensures'.some)

@@ -16,13 +16,13 @@ byte_small false = omega arith
 
 pub overflow_add-result : goal.overflow_add-result
 overflow_add-result c =
-    let n = c.takers.ensures ∙ ap (λ l. count_by (takes c.args.self.now.rows.now) (range_with_len (l * 128) 128)) c.index.ensures.same ∙ takers_by c.args.self.now.rows.now c.args.level in
+    let n = c.takers.ensures ∙ ap (λ l. count_by (takes c.args.self.now.rows.now) (range_with_len (l * 128) 128)) c.from.ensures.0 ∙ takers_by c.args.self.now.rows.now c.args.level in
     let few = takers_few c.args.self.now.rows.now c.args.level 128 in
     omega (arith, c.from-handles.ensures, byte_small c.eq.result)
 
 pub returns : goal.returns
 returns c =
-    let n = c.takers.ensures ∙ ap (λ l. count_by (takes c.args.self.now.rows.now) (range_with_len (l * 128) 128)) c.index.ensures.same ∙ takers_by c.args.self.now.rows.now c.args.level in
+    let n = c.takers.ensures ∙ ap (λ l. count_by (takes c.args.self.now.rows.now) (range_with_len (l * 128) 128)) c.from.ensures.0 ∙ takers_by c.args.self.now.rows.now c.args.level in
     let few = takers_few c.args.self.now.rows.now c.args.level 128 in
     record {
       value = ap (λ k. k + c.from-handles.result) n ∙ taken_is c.args.self.now.rows.now (lawful_rows _ c.args.self.now.lawful) c.args.level _ (c.from-handles.ensures ∙ byte_of c.eq.result ∙ ap (λ b. cond b 1 0) c.eq.ensures);

@@ -9,6 +9,6 @@ use Rattle.naming.proofs.table.Table.diamonds.Goals as goal
 pub returns-clause-orderly : goal.returns-clause-orderly
 returns-clause-orderly c =
     let ts = c.args.self.now.levels in
-    let h : c.index.result < length ts = omega arith in
-    let e : c.as_slice.result.now ≡ diamonds_at ts c.args.level = c.as_slice.ensures.items ∙ ap (λ (s : LevelLists). s.diamonds) (sym (level_read ts c.index.result _ h)) ∙ ap (diamonds_at ts) c.index.ensures.same in
+    let h : c.from.result < length ts = omega arith in
+    let e : c.as_slice.result.now ≡ diamonds_at ts c.args.level = c.as_slice.ensures.items ∙ ap (λ (s : LevelLists). s.diamonds) (sym (level_read ts c.from.result _ h)) ∙ ap (diamonds_at ts) c.from.ensures.0 in
     subst (λ (ms : List ModalClause). Orderly c.args.level ms) (sym e) (held_diamonds_orderly c.args.self.now c.args.level)

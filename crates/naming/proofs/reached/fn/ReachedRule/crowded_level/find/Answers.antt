@@ -7,5 +7,5 @@ use Rattle.naming.proofs.reached.fn.ReachedRule.crowded_level.find.Goals as goal
 pub returns : goal.returns
 unfolding crowds
 returns c =
-    let h : c.index.result < length c.captures.levels.now = omega arith in
-    ap₂ (λ (a b : ℕ). ltb 48 (a + b)) (c.len.ensures.count ∙ ap (λ (s : LevelLists). length s.names) (sym (level_read c.captures.levels.now c.index.result _ h) ∙ ap (lists_at c.captures.levels.now) c.index.ensures.same)) c.names_taken.ensures.value
+    let h : c.from.result < length c.captures.levels.now = omega arith in
+    ap₂ (λ (a b : ℕ). ltb 48 (a + b)) (c.len.ensures.count ∙ ap (λ (s : LevelLists). length s.names) (sym (level_read c.captures.levels.now c.from.result _ h) ∙ ap (lists_at c.captures.levels.now) c.from.ensures.0)) c.names_taken.ensures.value
