@@ -14,14 +14,14 @@ pub place_of-place-requires : goal.place_of-place-requires
 place_of-place-requires c =
     let rows = c.args.self.now.rows.now in
     let t = YieldsList-turn (YieldsList-at c.into_iter-n-iterator.ensures.into_iter_gives (takers_come _ rows c.args.level _ (ap (λ n. n * 128) c.from-first.ensures.0) c.filter-n-items.ensures.source c.filter-n-items.ensures.closure (λ x r q k. search (rules, tests))))
-      c.loop-n.yielded _ c.loop-n.yielded_by _ _ _ c.in-Some.is c.next.ensures.steps in
+    c.loop-n.yielded _ c.loop-n.yielded_by _ _ _ c.in-Some.is c.next.ensures.steps in
     taker_small rows c.args.level (length c.loop-n.yielded) c.in-Some.n (omega arith) t.0 t.1
 
 pub unwrap-requires : goal.unwrap-requires
 unwrap-requires c =
     let rows = c.args.self.now.rows.now in
     let t = YieldsList-turn (YieldsList-at c.into_iter-n-iterator.ensures.into_iter_gives (takers_come _ rows c.args.level _ (ap (λ n. n * 128) c.from-first.ensures.0) c.filter-n-items.ensures.source c.filter-n-items.ensures.closure (λ x r q k. search (rules, tests))))
-      c.loop-n.yielded _ c.loop-n.yielded_by _ _ _ c.in-Some.is c.next.ensures.steps in
+    c.loop-n.yielded _ c.loop-n.yielded_by _ _ _ c.in-Some.is c.next.ensures.steps in
     let a = named_count _ _ _ _ c.loop-n.invariant in
     let d = taken_is rows (lawful_rows _ c.args.self.now.lawful) c.args.level _ refl in
     accepted _ _ _ _ _ c.push.ensures.answer (omega (arith, c.requires, t.0))
@@ -34,7 +34,7 @@ pub unwrap-requires-then-eq : goal.unwrap-requires-then-eq
 unwrap-requires-then-eq c =
     let rows = c.args.self.now.rows.now in
     let t = YieldsList-end (YieldsList-at c.into_iter-n-iterator.ensures.into_iter_gives (takers_come _ rows c.args.level _ (ap (λ n. n * 128) c.from-first.ensures.0) c.filter-n-items.ensures.source c.filter-n-items.ensures.closure (λ x r q k. search (rules, tests))))
-      c.loop-n.yielded _ c.loop-n.yielded_by _ _ c.in-None.is c.next.ensures.steps in
+    c.loop-n.yielded _ c.loop-n.yielded_by _ _ c.in-None.is c.next.ensures.steps in
     let a = named_count _ _ _ _ c.loop-n.invariant in
     let e = eqb-true c.args.level 0 (sym c.if-eq.ensures) in
     let d = taken_is rows (lawful_rows _ c.args.self.now.lawful) c.args.level 1 (sym (cond-true _ _ _ (eq-eqb _ _ e))) in
@@ -43,11 +43,11 @@ unwrap-requires-then-eq c =
 pub returns-then-eq : goal.returns-then-eq
 returns-then-eq c =
     let t = YieldsList-end (YieldsList-at c.into_iter-n-iterator.ensures.into_iter_gives (takers_come _ c.args.self.now.rows.now c.args.level _ (ap (λ n. n * 128) c.from-first.ensures.0) c.filter-n-items.ensures.source c.filter-n-items.ensures.closure (λ x r q k. search (rules, tests))))
-      c.loop-n.yielded _ c.loop-n.yielded_by _ _ c.in-None.is c.next.ensures.steps in
+    c.loop-n.yielded _ c.loop-n.yielded_by _ _ c.in-None.is c.next.ensures.steps in
     named_handle _ _ _ _ c.loop-n.invariant _ c.args.level _ (sym (map-id _) ∙ t.0) (eqb-true c.args.level 0 (sym c.if-eq.ensures)) (taken_on _ _ _ 48 _ _ c.push-then-eq.ensures.answer c.unwrap-then-eq.ensures c.push-then-eq.ensures.items)
 
 pub returns-else-eq : goal.returns-else-eq
 returns-else-eq c =
     let t = YieldsList-end (YieldsList-at c.into_iter-n-iterator.ensures.into_iter_gives (takers_come _ c.args.self.now.rows.now c.args.level _ (ap (λ n. n * 128) c.from-first.ensures.0) c.filter-n-items.ensures.source c.filter-n-items.ensures.closure (λ x r q k. search (rules, tests))))
-      c.loop-n.yielded _ c.loop-n.yielded_by _ _ c.in-None.is c.next.ensures.steps in
+    c.loop-n.yielded _ c.loop-n.yielded_by _ _ c.in-None.is c.next.ensures.steps in
     named_places _ _ _ _ c.loop-n.invariant _ c.args.level (sym (map-id _) ∙ t.0) (sym c.if-eq.ensures)
