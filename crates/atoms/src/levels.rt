@@ -43,6 +43,7 @@ impl Level {
     ];
 
     /// The level of the number, or none from 8 on.
+    // An Option and no TryFrom: of a number that is no level there is nothing more to say.
     pub fn new(number: u8) -> Option<Level>
         ensures { MatchOption result (8 ≤ number) (λ l. (l ≡ number) × (number < 8)) }
     {
@@ -53,6 +54,7 @@ impl Level {
     }
 
     /// The number of the level, below 8.
+    // Beside the conversion to an index, since callers know it by this name.
     pub fn number(self) -> u8
         ensures same { result ≡ self }
         ensures small { result < 8 }

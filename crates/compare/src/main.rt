@@ -49,10 +49,8 @@ fn compare(rt: &HostRuntime) -> io::Result<()> {
 }
 
 fn main(rt: HostRuntime) -> io::Result<()> {
-    for argument in env::args(&rt)? {
-        if argument.as_str() == "time" {
-            return time(&rt);
-        }
+    if env::args(&rt)?.any(|argument| argument.as_str() == "time") {
+        return time(&rt);
     }
     compare(&rt)
 }

@@ -62,6 +62,7 @@ impl Held {
         }
     }
 
+    // Counted and matched here again: a comparison shares no code with what it compares.
     fn has_room(&self, mark: Mark) -> bool {
         let limit = match mark {
             Mark::Definition => DEFINITIONS,

@@ -17,7 +17,6 @@ const QUESTIONS: u32 = 20_000;
 // So many random entries of one mark, with `literals` literals each.
 #[derive(Clone, Copy)]
 struct Filling {
-    mark: Mark,
     entries: usize,
     literals: u8,
 }
@@ -37,12 +36,10 @@ const LARGE: [Measurement; 2] = [
     Measurement {
         atoms: 64,
         definitions: Filling {
-            mark: Mark::Definition,
             entries: DEFINITIONS,
             literals: 3,
         },
         learnt: Filling {
-            mark: Mark::Learnt,
             entries: LEARNT,
             literals: 3,
         },
@@ -50,12 +47,10 @@ const LARGE: [Measurement; 2] = [
     Measurement {
         atoms: 64,
         definitions: Filling {
-            mark: Mark::Definition,
             entries: DEFINITIONS,
             literals: 3,
         },
         learnt: Filling {
-            mark: Mark::Learnt,
             entries: LEARNT,
             literals: 2,
         },
@@ -66,12 +61,10 @@ const SMALL: [Measurement; 2] = [
     Measurement {
         atoms: 10,
         definitions: Filling {
-            mark: Mark::Definition,
             entries: 20,
             literals: 3,
         },
         learnt: Filling {
-            mark: Mark::Learnt,
             entries: 20,
             literals: 3,
         },
@@ -79,12 +72,10 @@ const SMALL: [Measurement; 2] = [
     Measurement {
         atoms: 10,
         definitions: Filling {
-            mark: Mark::Definition,
             entries: 60,
             literals: 3,
         },
         learnt: Filling {
-            mark: Mark::Learnt,
             entries: 60,
             literals: 3,
         },
@@ -118,9 +109,9 @@ impl<O: Oracle + Drop> Timed<O> {
         }
     }
 
-    fn fill(&mut self, filling: Filling, shape: Shape) -> Result<(), LevelFull> {
+    fn fill(&mut self, filling: Filling, mark: Mark, shape: Shape) -> Result<(), LevelFull> {
         for _ in 0..filling.entries {
-            let entry = self.random.entry(shape, filling.mark);
+            let entry = self.random.entry(shape, mark);
             self.oracle.take(Level::ROOT, entry)?;
         }
         Ok(())
@@ -135,8 +126,9 @@ impl<O: Oracle + Drop> Timed<O> {
         } = measurement;
         self.oracle.clear();
         self.random = Random::new(1);
-        self.fill(definitions, measurement.shape(definitions.literals))?;
-        self.fill(learnt, measurement.shape(learnt.literals))
+        let shape = measurement.shape(definitions.literals);
+        self.fill(definitions, Mark::Definition, shape)?;
+        self.fill(learnt, Mark::Learnt, measurement.shape(learnt.literals))
     }
 
     // Asks the questions, each under two random literals, and says how many were satisfiable.

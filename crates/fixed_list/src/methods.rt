@@ -27,8 +27,7 @@ impl<T: Copy, const N: usize> ArrayVec<T, N> {
         ensures items { result.now ≡ items_of self.now }
         ensures small { length result.now ≤ N }
     {
-        let slots = &self.items[..];
-        &slots[0..self.len]
+        &self.items[..self.len]
     }
 
     /// Whether the list has no item.

@@ -15,6 +15,7 @@ fn negated(n: u8) -> Literal
 }
 
 // The clause "not n, or x".
+// Beside `implies_either`: one function over a slice would go over it backwards, for one literal or two.
 pub(crate) fn implies(n: u8, x: Literal) -> Clause
     ensures { result ≡ clause_from (negation n ∷ x ∷ []) }
 {

@@ -12,7 +12,7 @@ use atoms::levels::{LEVELS, Level};
 use modal::row::Row;
 
 // How many names a level has.
-const NAMES: usize = 48;
+pub(crate) const NAMES: usize = 48;
 
 fn takes_name(row: Row) -> bool
     ensures { result ≡ wants_name row }
@@ -38,6 +38,7 @@ impl ReachedRule<'_> {
     }
 
     // How many of the places from a number on, as many as a level has, take a name.
+    // The chain that `name_level` goes over stands here again, as a chain can't be a function's result.
     fn takers(&self, first: usize) -> usize
         requires { first + 128 ≤ 1024 }
         ensures { result ≡ count_by (takes self.now.rows.now) (range_with_len first 128) }

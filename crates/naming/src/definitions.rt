@@ -2,12 +2,16 @@
 ghost use Rattle.naming.specs.Tables.{definitions_at};
 ghost use Rattle.std.specs.Prelude.{◌≡◌};
 
+use crate::counts::NAMES;
 use atoms::clauses::Clause;
 use atoms::levels::{LEVELS, Level};
 use fixed_list::ArrayVec;
 
-/// The definitions that one rule gives at one level: at most two for each name.
-pub(crate) type LevelClauses = ArrayVec<Clause, 96>;
+// At most two for each name.
+const DEFINITIONS: usize = 2 * NAMES;
+
+/// The definitions that one rule gives at one level.
+pub(crate) type LevelClauses = ArrayVec<Clause, DEFINITIONS>;
 
 /// The definitions of one rule, level by level.
 #[derive(Drop)]

@@ -9,6 +9,7 @@ ghost use Rattle.naming.specs.Names.{clauses_own, modal_own, lit_in, InRule, Sha
 ghost use Rattle.naming.specs.TakenIn.{TakenAt, TakenIn};
 
 use crate::clauses::{implies, implies_either};
+use crate::counts::NAMES;
 use crate::definitions::LevelClauses;
 use crate::names::{FIRST_NAME, Names};
 use crate::reached::ReachedRule;
@@ -20,7 +21,7 @@ use clausal::shapes::Shape;
 use fixed_list::ArrayVec;
 
 /// The box clauses, or the diamond clauses, of one level: at most one for each name.
-pub(crate) type ModalClauses = ArrayVec<ModalClause, 48>;
+pub(crate) type ModalClauses = ArrayVec<ModalClause, NAMES>;
 
 /// What stands at one level: its names, its box clauses and its diamond clauses.
 #[derive(Clone, Copy)]
@@ -51,7 +52,8 @@ impl LevelTable {
 
     // Appends what a shape under a sign gives to name n: definitions over the names here, a box or diamond clause over the
     // names one level further.
-    // What it is over and what it is written to stand apart: a struct of both would lend the level twice.
+    // What it is over and what it is written to stand apart: a struct of both would lend the level twice, and one of `rule`
+    // and `further` would be made anew at each level for two calls.
     fn give_shape(
         &mut self,
         rule: &ReachedRule,
@@ -70,6 +72,8 @@ impl LevelTable {
         ensures boxes { items_of self.new.boxes ≡ items_of self.old.boxes ++ modals n (lit_in (items_of further.now) rule.now.number rule.now.rows.now plus) (boxed shape) }
         ensures diamonds { items_of self.new.diamonds ≡ items_of self.old.diamonds ++ modals n (lit_in (items_of further.now) rule.now.number rule.now.rows.now plus) (diamonded shape) }
     {
+        let names = &self.names;
+        let here = |c: u8| rule.literal(names, c, plus);
         let modal = |c: u8| ModalClause {
             name: n,
             literal: rule.literal(further, c, plus),
@@ -77,15 +81,15 @@ impl LevelTable {
         match shape {
             Shape::Plain => {}
             Shape::Both(c, e) => {
-                let x = rule.literal(&self.names, c, plus);
-                let y = rule.literal(&self.names, e, plus);
+                let x = here(c);
+                let y = here(e);
                 definitions.push(implies(n, x)).unwrap();
                 definitions.push(implies(n, y)).unwrap();
             }
             Shape::Either(c, e) => {
-                let x = rule.literal(&self.names, c, plus);
-                let y = rule.literal(&self.names, e, plus);
-                definitions.push(implies_either(n, x, y)).unwrap();
+                definitions
+                    .push(implies_either(n, here(c), here(e)))
+                    .unwrap();
             }
             Shape::All(c) => self.boxes.push(modal(c)).unwrap(),
             Shape::One(c) => self.diamonds.push(modal(c)).unwrap(),
@@ -158,7 +162,8 @@ pub(crate) fn take_in(
 {
     let mut definitions = [ArrayVec::new(Clause::NONE); LEVELS];
     let mut further = ArrayVec::new(Name::Free);
-    // by index, as it goes backwards: of what is written through `iter_mut` under `rev` no proof knows
+    // by index, as it goes backwards: of what is written through `iter_mut` under `rev` no proof knows, and over `Level::ALL`
+    // backwards each index would be a level turned into one
     for level in (0..LEVELS).rev() {
         definitions[level] = levels[level].take_in(rule, Level::ALL[level], &further);
         further = levels[level].names;

@@ -5,6 +5,7 @@ ghost use Rattle.fixed_list.specs.Items.{items_of};
 ghost use Rattle.clausal.specs.Counting.{count_of_names};
 ghost use Rattle.naming.specs.Names.{lit_in, names_for, same_name};
 
+use crate::counts::NAMES;
 use crate::numbers::{LEVEL, place_of};
 use crate::reached::ReachedRule;
 use atoms::clauses::Literal;
@@ -14,7 +15,7 @@ use fixed_list::ArrayVec;
 use modal::row::Row;
 
 /// The names of one level, atom 16 first. In fixed memory, as all that a session holds, since no call may fail for want of it.
-pub(crate) type Names = ArrayVec<Name, 48>;
+pub(crate) type Names = ArrayVec<Name, NAMES>;
 
 // The atom of the first name.
 pub(crate) const FIRST_NAME: u8 = 16;

@@ -2,14 +2,14 @@
 ghost use Rattle.std.specs.Prelude.{◌≡◌, ◌<◌};
 ghost use Rattle.naming.specs.Numbers.{number_of, place_numbered};
 
-use atoms::levels::Level;
+use atoms::levels::{LEVELS, Level};
 use clausal::places::Place;
 
 // How many numbers a level has.
 pub(crate) const LEVEL: usize = 128;
 
 // How many numbers there are.
-pub(crate) const PLACES: usize = 1024;
+pub(crate) const PLACES: usize = LEVELS * LEVEL;
 
 // A row below 64 is asked for here, since a place is any row with a sign at a level.
 pub(crate) fn number(place: Place) -> usize

@@ -24,7 +24,7 @@ const RULES: usize = 16;
 /// The clausal form of up to 16 rules, but for their definitions, which an oracle holds.
 #[derive(Drop)]
 pub struct Table {
-    rules: ArrayVec<RowList, 16>,
+    rules: ArrayVec<RowList, RULES>,
     levels: [LevelTable; LEVELS],
     ghost rules_lawful: { every lawful (held_rules rules) ≡ true },
     ghost named: { ((l : ℕ) → names_at levels l ≡ names_from 0 (held_rules rules) l) },

@@ -48,7 +48,3 @@ taken rs i n old r e x l q items when =
       here = entries_here rs i r l ∙ items ∙ ap (λ (xs : List Entry). cond (is_ok x) (xs ++ e ∷ []) xs) (entries_read rs i old l);
       when = when ∙ ap (room e.mark) (entries_read rs i old l);
     })
-
--- among the first entries there are no more definitions than entries
-pub fewer_definitions : (es : List Entry) (i : ℕ) → i ≤ length es → length (definitions (take i es)) ≤ i
-fewer_definitions es i l = omega (arith, counted (take i es), length-take-le i es l)

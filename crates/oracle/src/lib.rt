@@ -24,8 +24,9 @@ pub mod store;
 use answers::{LevelFull, Solved};
 
 /// An oracle holds a list of entries for each level.
-// Each oracle forwards take, forget and clear to its store: shared code for that needs a second trait for solving, with
-// the order that each solve promises behind a ghost member. So each says of itself what its core is.
+// Each oracle is made with an empty store, and forwards take, forget and clear to it: shared code for that needs a second
+// trait for solving, with the order that each solve promises behind a ghost member. So each says of itself what its core
+// is: not here, since an oracle may give a smaller core than all that was assumed.
 pub trait Oracle {
     ghost entries: { Self → ℕ → List Entry };
 

@@ -42,7 +42,8 @@ fn count(entries: &[Entry], under: Assumptions) -> Option<AtomSet>
     }
     let free = named(entries).intersection(under.undecided());
     let mut counted = AtomSet::NONE;
-    // With a label, as a valuation is to be dropped at the first entry that it makes false.
+    // With a label, as docs/DECISIONS.md has it for this oracle: the inner loop is left for the next valuation at the first
+    // entry that is false.
     'next: loop {
         let valuation = under.within.union(counted);
         for entry in entries {

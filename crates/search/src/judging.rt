@@ -26,6 +26,7 @@ fn judge(clause: Clause, trail: Assumptions) -> Status
     let undecided = trail.undecided();
     let plain = clause.plain.intersection(undecided);
     let negated = clause.negated.intersection(undecided);
+    // Two arms for the two signs: one for both would go over a pair of a set and a sign, and the other arms would return.
     match (plain.is_empty(), negated.is_empty()) {
         (true, true) => Status::Conflict,
         (false, true) => sole(plain).map_or(
@@ -44,7 +45,8 @@ fn judge(clause: Clause, trail: Assumptions) -> Status
 pub(crate) fn examine(entries: &[Entry], trail: Assumptions) -> Status
     ensures { FirstJudged trail entries.now result }
 {
-    // A match: for a `find_map` the two statuses that are not open would need an enum of their own in an Option.
+    // A match: for a `find_map` the two statuses that are not open would need an enum of their own in an Option, and with
+    // `map` and `find` each status would be compared with one that is named again at the end.
     for entry in entries {
         match judge(entry.clause, trail) {
             Status::Open => {}

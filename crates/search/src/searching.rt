@@ -58,6 +58,7 @@ pub(crate) fn search(entries: &[Entry], trail: &mut Assumptions) -> Option<AtomS
             let Some(atom) = trail.undecided().lowest() else {
                 return Some(trail.within);
             };
+            // A block and no `or_else`: the first trial's guard lets go of the trail before the second begins.
             {
                 let trial = Trial::begin(trail, Literal { atom, holds: true });
                 if let Some(valuation) = search(entries, trial.trail) {

@@ -5,6 +5,7 @@ ghost use Rattle.sheet.specs.Sheets.{row_stands, rows_or_none, shown_rows, Shown
 use crate::faults::SheetFault;
 use crate::row::SheetRow;
 
+// A number and no `Level`, as in a row, where 255 says blank.
 const DEEPEST: u8 = 7;
 
 // Whether the row may stand after the rows before it.

@@ -12,7 +12,7 @@ mod methods;
 mod tests;
 
 /// A stack: the first `len` of the slots, the top last.
-// A length beside lent slots, since no stack may fail for want of memory; and clauses `room` and `lent` on each call that
+// A length beside lent slots: the caller says how many there are, and no stack may fail for want of memory; and clauses `room` and `lent` on each call that
 // alters it, since no ghost field relates what a stack was to what it is.
 #[derive(Drop)]
 pub struct Stack<'a, T> {

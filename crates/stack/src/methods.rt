@@ -55,11 +55,9 @@ impl<'a, T: Copy> Stack<'a, T> {
         ensures room { length (slots_of self.new) ≡ length (slots_of self.old) }
         ensures lent { lender_of self.new ≡ lender_of self.old }
     {
-        if self.len == 0 {
-            return None;
-        }
+        let top = self.top()?;
         self.len -= 1;
-        Some(self.slots[self.len])
+        Some(top)
     }
 
     /// The top; none if the stack is empty.
@@ -81,6 +79,7 @@ impl<'a, T: Copy> Stack<'a, T> {
         if self.len == 0 {
             return Err(x);
         }
+        // by index: what is written through `last_mut` left `entries` open
         self.slots[self.len - 1] = x;
         Ok(())
     }

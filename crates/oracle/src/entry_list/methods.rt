@@ -62,10 +62,12 @@ impl EntryList {
         ensures { held_of self.new ≡ definitions (held_of self.old) }
     {
         let mut kept = ArrayVec::new(BLANK);
-        for entry in self.held() {
-            if entry.mark == Mark::Definition {
-                kept.push(*entry).unwrap();
-            }
+        for entry in self
+            .held()
+            .iter()
+            .filter(|entry| entry.mark == Mark::Definition)
+        {
+            kept.push(*entry).unwrap();
         }
         self.entries = kept;
         self.taught = 0;

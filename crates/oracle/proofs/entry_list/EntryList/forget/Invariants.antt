@@ -1,7 +1,7 @@
-use Rattle.std.proofs.Common.{◌≡◌, take}
-use Rattle.atoms.specs.Clauses.{definitions}
+use Rattle.std.proofs.Common.{◌≡◌, map}
+use Rattle.atoms.specs.declared.clauses.Entry.{Entry}
 use Rattle.fixed_list.specs.Items.{items_of}
 use Rattle.oracle.proofs.entry_list.EntryList.forget.Given as goal
 
 abbrev pub invariant-loop-entry : goal.invariant-loop-entry
-invariant-loop-entry l = items_of l.kept ≡ definitions (take l.entry-index l.entry-items)
+invariant-loop-entry l = items_of l.kept ≡ map (λ e. e.now) l.yielded
