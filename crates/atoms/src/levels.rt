@@ -68,6 +68,13 @@ impl Level {
     {
         Level::new(self.number + 1)
     }
+
+    /// One level nearer to the root, or none at the root.
+    pub fn previous(self) -> Option<Level>
+        ensures { MatchOption result (self ≡ 0) (λ l. l + 1 ≡ self) }
+    {
+        Level::new(self.number.checked_sub(1)?)
+    }
 }
 
 // The number of the level as an index.

@@ -2,12 +2,14 @@
 use Rattle.std.proofs.Common.{◌≡◌, ℕ, suc, ◌<◌, ◌≤◌, true, List, [], ◌∷◌, length, refl, ap, ◌∙◌, subst, arith}
 use Rattle.lists.specs.Lists.{In, here, there}
 use Rattle.lists.proofs.Members.{every_in}
+use Rattle.modal.specs.Kripke.{meets}
+use Rattle.modal.specs.Rows.{says}
 use Rattle.atoms.specs.Clauses.{Valuation, obeys_one, makes_all, learnt, definitions}
 use Rattle.atoms.specs.declared.clauses.Entry.{Entry}
 use Rattle.atoms.specs.declared.clauses.Literal.{Literal}
 use Rattle.clausal.specs.Questions.{with_entries, part_of, Allowed, Reaches, CoreOf, Learns}
-use Rattle.clausal.specs.States.{State, handle_of, obeys_all, fired, literals}
-use Rattle.clausal.specs.Trees.{Tree, node, Forest, none, more, root, Complete, CompleteAll, size}
+use Rattle.clausal.specs.States.{State, rule_at, handle_of, obeys_all, fired, literals}
+use Rattle.clausal.specs.Trees.{Tree, node, Forest, none, more, root, Complete, CompleteAll, size, worlds}
 use Rattle.clausal.specs.declared.modal_clauses.ModalClause.{ModalClause}
 use Rattle.clausal.proofs.Truth.{root_meets}
 use Rattle.law.specs.Verdicts.{handles, OpenLaw, ClosedLaw, FullLaw, Sound}
@@ -24,7 +26,7 @@ module _ (st : State) (es : ℕ → List Entry) (h : (l : ℕ) → definitions (
     complete_all_kept none l bs ds c = c
     complete_all_kept (more t ts) l bs ds (d, rest, e, c, cs) = (d, rest, e, complete_kept t l (d.literal ∷ bs) c, complete_all_kept ts l bs rest cs)
 
-in_handles : (st : State) {k : ℕ} {ks : List ℕ} → In k ks → In (record { atom = handle_of st k; holds = true }) (handles st ks)
+pub in_handles : (st : State) {k : ℕ} {ks : List ℕ} → In k ks → In (record { atom = handle_of st k; holds = true }) (handles st ks)
 in_handles st here = here
 in_handles st (there i) = there (in_handles st i)
 
@@ -42,15 +44,15 @@ module _ (st : State) (s : Sound st) (es : ℕ → List Entry) (n : Learns st es
   now : Sound after
   now = learn_sound st es n s few
 
+  -- a tree that was complete is still, and its root meets the rules asked
+  pub still_complete : (t : Tree) → Complete st 0 (handles st asked) t → Complete after 0 (handles after asked) t
+  still_complete t c = complete_kept st es (same_definitions st es n) t 0 (handles after asked) (subst (λ (xs : List Literal). Complete st 0 xs t) (same_handles st es asked) c)
+
+  pub complete_meets : (t : Tree) → Complete after 0 (handles after asked) t → (k : ℕ) → In k asked → meets (says (rule_at after k)) (worlds 0 t) 0 ≡ true
+  complete_meets t whole k i = (root_meets after now.clausal 0 (handles after asked) t whole).handles k (held k i) refl (root_obeys after 0 (handles after asked) t whole (record { atom = handle_of after k; holds = true }) (in_handles after i))
+
   pub answer_open : (t : Tree) → Complete st 0 (handles st asked) t → (count : ℕ) → size t ≡ count → OpenLaw after asked count
-  answer_open t c count e =
-      let whole : Complete after 0 (handles after asked) t = complete_kept st es (same_definitions st es n) t 0 (handles after asked) (subst (λ (xs : List Literal). Complete st 0 xs t) (same_handles st es asked) c) in
-      record {
-        tree = t;
-        whole = whole;
-        counted = e;
-        meeting = λ k i. (root_meets after now.clausal 0 (handles after asked) t whole).handles k (held k i) refl (root_obeys after 0 (handles after asked) t whole (record { atom = handle_of after k; holds = true }) (in_handles after i));
-      }
+  answer_open t c count e = let whole = still_complete t c in record { tree = t; whole = whole; counted = e; meeting = complete_meets t whole }
 
   pub answer_closed : (core : List ℕ) → ((k : ℕ) → In k core → In k asked) → ((v : Valuation) → obeys_all v (handles after core) ≡ true → makes_all v (es 0) ≡ true → ⊥) → ClosedLaw after asked core
   answer_closed core part none-obeys = core_closes after now.clausal asked core now.forced part held none-obeys

@@ -1,0 +1,13 @@
+pub mod Stacked
+pub mod Weighing
+pub mod Turning
+pub mod Growing
+pub mod Worlding
+pub mod Showing
+pub mod Ending
+pub mod Tidying
+pub mod Visiting
+pub mod Leaving
+pub mod Losing
+pub mod Keeping
+pub mod Asking

@@ -1,0 +1,7 @@
+pub mod Drawing
+pub mod Shown
+pub mod Weights
+pub mod Outcomes
+pub mod Worlds
+pub mod Steps
+pub mod Pending

@@ -1,0 +1,4 @@
+pub mod Folding
+pub mod Gathering
+pub mod Blaming
+pub mod Teaching
