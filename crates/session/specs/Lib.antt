@@ -1,0 +1,5 @@
+pub mod Faults
+pub mod Replies
+pub mod Effects
+pub mod Runs
+pub mod Assumed
