@@ -1,0 +1,4 @@
+pub mod Splitting
+pub mod Within
+pub mod Carrying
+pub mod Saying

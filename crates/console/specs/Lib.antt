@@ -1,0 +1,5 @@
+pub mod Faults
+pub mod Pieces
+pub mod Splitting
+pub mod Lines
+pub mod Carrying
