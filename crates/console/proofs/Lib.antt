@@ -2,3 +2,4 @@ pub mod Splitting
 pub mod Within
 pub mod Carrying
 pub mod Saying
+pub mod Agreeing

@@ -3,3 +3,4 @@ pub mod Pieces
 pub mod Splitting
 pub mod Lines
 pub mod Carrying
+pub mod Laws

@@ -38,6 +38,18 @@ call_of_read input at (Err fault) = Err (layer.Input fault)
 abbrev pub call_of : List ℕ → Piece → Result Call ConsoleFault
 call_of input p = call_of_read input p.at p.read
 
+abbrev pub with_call : Result Call ConsoleFault → List Call → List Call
+with_call (Ok c) cs = c ∷ cs
+with_call (Err fault) cs = cs
+
+abbrev pub calls_after : List Call → List ℕ → List Piece → List Call
+calls_after cs input [] = cs
+calls_after cs input (p ∷ ps) = calls_after (with_call (call_of input p) cs) input ps
+
+-- the calls that pieces make, the latest first: a function of the input alone
+abbrev pub calls_in : List ℕ → List Piece → List Call
+calls_in = calls_after []
+
 -- where the faulty row of a rule begins, which stands behind the byte where the rows do
 abbrev pub row_byte : ℕ → Result Command InputFault → ReadFault → ℕ
 row_byte at (Ok (Add start)) fault = start + (read_start fault).byte

@@ -6,5 +6,6 @@
 #![tactic(auto)]
 
 pub mod faults;
+pub mod laws;
 pub mod lines;
 pub mod pieces;

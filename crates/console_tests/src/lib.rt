@@ -189,6 +189,12 @@ R 3 382 0
         refused(&rt, heap, b"02 0 ", 4)?;
         refused(&rt, heap, b"0200", 2)?;
         refused(&rt, heap, b"02 g0", 3)?;
-        refused(&rt, heap, b"02 0#", 4)
+        refused(&rt, heap, b"02 0#", 4)?;
+        let message = format!(in heap; "{}", TextFault::Unexpected(4))?;
+        assert_eq!(rt;
+            message.as_str().split_once(':').map(|parts| parts.0),
+            Some("byte 4 of the text")
+        );
+        Ok(())
     }
 }
