@@ -1,5 +1,5 @@
 -- What each command of an input says, one line for each.
-use Rattle.std.specs.Prelude.{◌≡◌, ℕ, ◌+◌, ◌-◌, List, [], ◌∷◌, ◌++◌, take, drop, Ok, Err, Result}
+use Rattle.std.specs.Prelude.{◌≡◌, ℕ, ◌+◌, ◌-◌, List, [], ◌∷◌, ◌++◌, take, drop, Ok, Err, Result, codes, decimal}
 use Rattle.modal.specs.Faults.{read_start}
 use Rattle.modal.specs.Format.{parsed}
 use Rattle.modal.specs.declared.faults.ReadFault.{ReadFault}
@@ -92,3 +92,11 @@ pub record Says (input : List ℕ) (lines : List Line) : Type 0 where
   pub led : Led history left
   pub sound : Sound left
   pub agrees : (k : History) (t : State) → Led k t → calls_of k ≡ calls_of history → AgreeAll history k
+
+-- what is printed of a line
+abbrev pub line_text : Line → List ℕ
+line_text (Added number) = codes "A " ++ decimal number
+line_text Open = codes "O"
+line_text (Closed rules) = codes "C " ++ decimal rules
+line_text Forgotten = codes "F"
+line_text (Refused number offset detail) = codes "R " ++ (decimal number ++ (codes " " ++ (decimal offset ++ (codes " " ++ decimal detail))))

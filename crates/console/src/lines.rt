@@ -1,9 +1,9 @@
 // What each command of an input says.
-ghost use Rattle.std.specs.Prelude.{◌≡◌, ◌<◌, ◌≤◌, ◌^◌, length, IfOk};
+ghost use Rattle.std.specs.Prelude.{◌≡◌, ◌<◌, ◌≤◌, ◌^◌, length, IfOk, Some};
 ghost use Rattle.naming.specs.Tables.{view_of};
 ghost use Rattle.console.specs.Carrying.{Grows, told, offset_in};
 ghost use Rattle.console.specs.Pieces.{Within};
-ghost use Rattle.console.specs.Lines.{refusal_line, offset_of, Says};
+ghost use Rattle.console.specs.Lines.{refusal_line, offset_of, line_text, Says};
 
 use crate::faults::ConsoleFault;
 use crate::pieces::{Command, Piece, pieces};
@@ -34,6 +34,8 @@ pub enum Line {
 }
 
 impl fmt::Display for Line {
+    ghost output = { λ line. Some (line_text line) };
+
     fn fmt<W: fmt::Write>(&self, f: &mut fmt::Formatter<W>) -> fmt::Result {
         match *self {
             Line::Added(number) => write!(f, "A {number}"),

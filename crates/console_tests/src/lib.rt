@@ -89,7 +89,7 @@ mod tests {
     }
 
     #[test]
-    fn every_refusal(rt: HostRuntime) -> Result<(), Fail> {
+    fn every_refusal_that_one_input_can_meet(rt: HostRuntime) -> Result<(), Fail> {
         let heap = rt.alloc();
         let mut input = vec![in heap; 8]?;
         too_large(&mut input)?;

@@ -10,7 +10,6 @@ use crate::verdict::Verdict;
 use clausal::faults::AddFault;
 use modal::rule::Rule;
 use oracle::Oracle;
-use sheet::row::SheetRow;
 use std::alloc::{AllocError, Global};
 
 /// A call on a session: a rule to add, a question by the bits of the rules' numbers, or to forget.
@@ -31,12 +30,12 @@ pub enum Reply {
 
 impl<O: Oracle> Session<O> {
     // Carries out a call.
-    fn carry_out(&mut self, call: Call, sheet: &mut [SheetRow]) -> Reply
+    fn carry_out(&mut self, call: Call) -> Reply
         ensures { Owes (view_of self.old.table (O.Oracle.entries self.old.oracle)) (call_of call) (reply_of result) (view_of self.new.table (O.Oracle.entries self.new.oracle)) }
     {
         match call {
             Call::Add(rule) => Reply::Added(self.add(rule)),
-            Call::Question(rules) => Reply::Answered(self.question(rules, sheet)),
+            Call::Question(rules) => Reply::Answered(self.question(rules, &mut [])),
             Call::Forget => {
                 self.forget();
                 Reply::Forgotten
@@ -45,12 +44,11 @@ impl<O: Oracle> Session<O> {
     }
 }
 
-/// Carries out the calls in their order on a new session over the oracle, and answers their replies. Each question
-/// draws on the sheet.
+/// Carries out the calls in their order on a new session over the oracle, and answers their replies. A question draws
+/// nothing.
 pub fn run<O: Oracle + Drop>(
     oracle: O,
     calls: Vec<Call>,
-    sheet: &mut [SheetRow],
     heap: Global,
 ) -> Result<Vec<Reply>, AllocError>
     ensures { IfOk result (λ replies. Ran calls.items replies.items) }
@@ -58,7 +56,7 @@ pub fn run<O: Oracle + Drop>(
     let mut session = Session::new(oracle);
     let mut replies = Vec::new(heap);
     for call in calls {
-        replies.push(session.carry_out(call, sheet))?;
+        replies.push(session.carry_out(call))?;
     }
     Ok(replies)
 }

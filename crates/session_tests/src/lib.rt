@@ -207,7 +207,7 @@ mod tests {
         calls.push(Call::Question(0b11))?;
         calls.push(Call::Forget)?;
         calls.push(Call::Question(0b100))?;
-        let replies = run(Searcher::new(), calls, &mut [], heap)?;
+        let replies = run(Searcher::new(), calls, heap)?;
         let expected = [
             Reply::Added(Ok(0)),
             Reply::Added(Ok(1)),
