@@ -1,6 +1,6 @@
 // What each command of an input says.
 ghost use Rattle.std.specs.Prelude.{◌≡◌, ◌<◌, ◌≤◌, ◌^◌, length, IfOk, Some};
-ghost use Rattle.naming.specs.Tables.{view_of};
+ghost use Rattle.session.specs.View.{view};
 ghost use Rattle.console.specs.Carrying.{Grows, told, offset_in};
 ghost use Rattle.console.specs.Pieces.{Within};
 ghost use Rattle.console.specs.Lines.{refusal_line, offset_of, line_text, Says};
@@ -58,7 +58,7 @@ fn carry_out<O: Oracle>(
     piece: Piece,
 ) -> Result<Line, ConsoleFault>
     requires { Within (length input.now) piece }
-    ensures grows { Grows input.now (view_of session.old.table (O.Oracle.entries session.old.oracle)) piece (told piece result) (view_of session.new.table (O.Oracle.entries session.new.oracle)) }
+    ensures grows { Grows input.now (view O.Oracle.entries session.old) piece (told piece result) (view O.Oracle.entries session.new) }
     ensures offset { offset_in piece result ≤ piece.at }
 {
     match piece.read? {
@@ -106,7 +106,7 @@ impl Piece {
 // Carries out a piece on the session, and says what came of it.
 fn answer<O: Oracle>(session: &mut Session<O>, input: &[u8], piece: Piece) -> Line
     requires { Within (length input.now) piece }
-    ensures { Grows input.now (view_of session.old.table (O.Oracle.entries session.old.oracle)) piece result (view_of session.new.table (O.Oracle.entries session.new.oracle)) }
+    ensures { Grows input.now (view O.Oracle.entries session.old) piece result (view O.Oracle.entries session.new) }
 {
     match carry_out(session, input, piece) {
         Ok(line) => line,

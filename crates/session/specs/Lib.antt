@@ -1,3 +1,4 @@
+pub mod View
 pub mod Faults
 pub mod Replies
 pub mod Effects

@@ -6,9 +6,10 @@ ghost use Rattle.clausal.specs.Questions.{Learns};
 ghost use Rattle.law.specs.Calls.{add, question, forget, forgotten};
 ghost use Rattle.law.specs.Runs.{add_reply, unknown, Owes};
 ghost use Rattle.modal.specs.Rules.{rows_of};
-ghost use Rattle.naming.specs.Tables.{rules_in, view_of};
+ghost use Rattle.naming.specs.Tables.{rules_in};
 ghost use Rattle.oracle.specs.Oracles.{Forgets};
 ghost use Rattle.session.specs.Effects.{Takes, LeavesSheet, WritesRule};
+ghost use Rattle.session.specs.View.{table_of, lists_of, view};
 ghost use Rattle.session.specs.Replies.{numbers_of, question_reply, unknown_in};
 
 use crate::asking::{assume, kept_in};
@@ -33,7 +34,7 @@ pub struct Session<O> {
 impl<O: Oracle> Session<O> {
     /// A session without rules, whatever the oracle held.
     pub fn new(mut oracle: O) -> Session<O>
-        ensures { Fresh (view_of result.table (O.Oracle.entries result.oracle)) }
+        ensures { Fresh (view O.Oracle.entries result) }
     {
         oracle.clear();
         start(&mut oracle);
@@ -45,9 +46,9 @@ impl<O: Oracle> Session<O> {
 
     /// Takes in exactly the clausal form of the rule, which is used up, and answers its number.
     pub fn add(&mut self, rule: Rule) -> Result<u8, AddFault>
-        ensures owed { Owes (view_of self.old.table (O.Oracle.entries self.old.oracle)) (add (rows_of rule)) (add_reply result) (view_of self.new.table (O.Oracle.entries self.new.oracle)) }
-        ensures answer { result ≡ add_answer (rules_in self.old.table) (rows_of rule) }
-        ensures effect { MatchResult result (λ _. Takes (view_of self.old.table (O.Oracle.entries self.old.oracle)) (rows_of rule) (view_of self.new.table (O.Oracle.entries self.new.oracle))) (λ _. self.new ≡ self.old) }
+        ensures owed { Owes (view O.Oracle.entries self.old) (add (rows_of rule)) (add_reply result) (view O.Oracle.entries self.new) }
+        ensures answer { result ≡ add_answer (rules_in (table_of self.old)) (rows_of rule) }
+        ensures effect { MatchResult result (λ _. Takes (view O.Oracle.entries self.old) (rows_of rule) (view O.Oracle.entries self.new)) (λ _. self.new ≡ self.old) }
     {
         let added = self.table.add(rule)?;
         define_rule(&mut self.oracle, &added.definitions);
@@ -56,12 +57,12 @@ impl<O: Oracle> Session<O> {
 
     /// Whether the rules asked hold together: rule k is asked by bit k. A tree that fits is shown on the sheet.
     pub fn question(&mut self, rules: u16, sheet: &mut [SheetRow]) -> Result<Verdict, QuestionFault>
-        ensures owed { Owes (view_of self.old.table (O.Oracle.entries self.old.oracle)) (question (numbers_of rules)) (question_reply result) (view_of self.new.table (O.Oracle.entries self.new.oracle)) }
-        ensures sheet { LeavesSheet (view_of self.old.table (O.Oracle.entries self.old.oracle)) (view_of self.new.table (O.Oracle.entries self.new.oracle)) (numbers_of rules) sheet.old sheet.new result }
-        ensures unknown { unknown_in result ≡ unknown (length (rules_in self.old.table)) (numbers_of rules) }
+        ensures owed { Owes (view O.Oracle.entries self.old) (question (numbers_of rules)) (question_reply result) (view O.Oracle.entries self.new) }
+        ensures sheet { LeavesSheet (view O.Oracle.entries self.old) (view O.Oracle.entries self.new) (numbers_of rules) sheet.old sheet.new result }
+        ensures unknown { unknown_in result ≡ unknown (length (rules_in (table_of self.old))) (numbers_of rules) }
         ensures refused { (number : ℕ) → result ≡ Err (QuestionFault.UnknownRule number) → self.new ≡ self.old }
-        ensures table { self.new.table ≡ self.old.table }
-        ensures learns { Learns (view_of self.old.table (O.Oracle.entries self.old.oracle)) (O.Oracle.entries self.new.oracle) }
+        ensures table { table_of self.new ≡ table_of self.old }
+        ensures learns { Learns (view O.Oracle.entries self.old) (lists_of O.Oracle.entries self.new) }
     {
         let under = assume(&self.table, rules)?;
         match ask(&mut self.oracle, &self.table, under, sheet) {
@@ -73,16 +74,16 @@ impl<O: Oracle> Session<O> {
 
     /// Drops all that was learnt.
     pub fn forget(&mut self)
-        ensures owed { Owes (view_of self.old.table (O.Oracle.entries self.old.oracle)) forget forgotten (view_of self.new.table (O.Oracle.entries self.new.oracle)) }
-        ensures table { self.new.table ≡ self.old.table }
-        ensures entries { Forgets (O.Oracle.entries self.old.oracle) (O.Oracle.entries self.new.oracle) }
+        ensures owed { Owes (view O.Oracle.entries self.old) forget forgotten (view O.Oracle.entries self.new) }
+        ensures table { table_of self.new ≡ table_of self.old }
+        ensures entries { Forgets (lists_of O.Oracle.entries self.old) (lists_of O.Oracle.entries self.new) }
     {
         self.oracle.forget();
     }
 
     /// Puts the bytes of the rule with the number at the start of the buffer, and answers how many they are.
     pub fn write(&self, rule: u8, out: &mut [u8]) -> Result<usize, RuleFault>
-        ensures { WritesRule (rules_in self.now.table) rule out.old out.new result }
+        ensures { WritesRule (rules_in (table_of self.now)) rule out.old out.new result }
     {
         let rows = self.table.rows(rule).ok_or(RuleFault::NotAccepted(rule))?;
         let rule = Rule::try_from(rows).unwrap();

@@ -1,7 +1,7 @@
 use Rattle.std.proofs.Common.{take}
-use Rattle.naming.specs.Tables.{view_of}
+use Rattle.session.specs.View.{view}
 use Rattle.console.proofs.Saying.{Leads}
 use Rattle.console.proofs.lines.lines_over.Given as goal
 
 abbrev pub invariant-loop-piece : goal.invariant-loop-piece
-invariant-loop-piece g l = Leads l.input (take l.piece-index l.piece-items) l.lines.items (view_of l.session.table (g.O.Oracle.entries l.session.oracle))
+invariant-loop-piece g l = Leads l.input (take l.piece-index l.piece-items) l.lines.items (view g.O.Oracle.entries l.session)
