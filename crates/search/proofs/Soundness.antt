@@ -74,13 +74,13 @@ found_forced es w u x (Some s) j t f = found_less es w u x s j f
 found_forced es w u x None j t f = λ v o m. let g = obeys_follows v w o in f v (follows_obeys v u (follows_more w u x v j g (t v g m))) m
 
 -- where both trials of an atom find nothing there is nothing
-found_both : (es : List Entry) (w u t : Assumptions) (a : ℕ) (r : Option AtomSet) → Joined w (inside a) u → Joined w (outside a) t → Unsatisfiable u es → Finds es t r → Finds es w r
-found_both es w u t a (Some s) ju jt f g = found_less es w t (outside a) s jt g
+found_both : (es : List Entry) (w u t : Assumptions) (a : ℕ) (r : Option AtomSet) → Joined w (outside a) u → Joined w (inside a) t → Unsatisfiable u es → Finds es t r → Finds es w r
+found_both es w u t a (Some s) ju jt f g = found_less es w t (inside a) s jt g
 found_both es w u t a None ju jt f g = λ v o m. at v (obeys_follows v w o) m (v a) refl
   where
     at : (v : Valuation) → Follows v w → makes_all v es ≡ true → (b : Bool) → v a ≡ b → ⊥
-    at v h m true e = f v (follows_obeys v u (follows_more w u (inside a) v ju h e)) m
-    at v h m false e = g v (follows_obeys v t (follows_more w t (outside a) v jt h (ap not e))) m
+    at v h m false e = f v (follows_obeys v u (follows_more w u (outside a) v ju h (ap not e))) m
+    at v h m true e = g v (follows_obeys v t (follows_more w t (inside a) v jt h e)) m
 
 -- when all is decided the trail is the valuation
 found_full : (es : List Entry) (w : Assumptions) → Apart w → makes_all (has w.within) es ≡ true → Satisfies es w (has w.within)
@@ -96,8 +96,8 @@ searched_finds (clash {w = w} e) = λ v o m. clash_never w e v (obeys_follows v 
 searched_finds (conflict {w = w} apart j) = λ v o m. first_tells j v (obeys_follows v w o) m
 searched_finds {es = es} (follow {w = w} {u = u} {r = r} x apart j k s) = found_forced es w u x r k (first_tells j) (searched_finds s)
 searched_finds {es = es} (full {w = w} apart j all) = found_full es w apart (first_tells j apart all)
-searched_finds {es = es} (try_in {w = w} {u = u} {v = v} a apart j low k s) = found_less es w u (inside a) v k (searched_finds s)
-searched_finds {es = es} (try_out {w = w} {u = u} {t = t} {r = r} a apart j low k s l n) = found_both es w u t a r k l (searched_finds s) (searched_finds n)
+searched_finds {es = es} (try_out {w = w} {u = u} {v = v} a apart j low k s) = found_less es w u (outside a) v k (searched_finds s)
+searched_finds {es = es} (try_in {w = w} {u = u} {t = t} {r = r} a apart j low k s l n) = found_both es w u t a r k l (searched_finds s) (searched_finds n)
 
 -- where the atoms that no entry names are out too, unless they must be in, no verdict is lost
 spared : (es : List Entry) (under w : Assumptions) → Started es under w → Unsatisfiable w es → Unsatisfiable under es

@@ -35,16 +35,16 @@ abbrev pub outside : ℕ → Literal
 outside a = record { atom = a; holds = false }
 
 -- The search from a trail. It finds nothing where the trail clashes or makes a clause false; it follows the first
--- clause with one undecided literal left; otherwise it tries the lowest undecided atom in, and if that finds nothing,
--- out; with no atom undecided the trail is the valuation.
+-- clause with one undecided literal left; otherwise it tries the lowest undecided atom out, and if that finds nothing,
+-- in; with no atom undecided the trail is the valuation.
 pub data Searched (es : List Entry) : Assumptions → Option AtomSet → Type 0 where
   clash : {w : Assumptions} → clashing w ≡ true → Searched es w None
   conflict : {w : Assumptions} → Apart w → FirstJudged w es Conflict → Searched es w None
   follow : {w u : Assumptions} {r : Option AtomSet} (x : Literal) → Apart w → FirstJudged w es (Forced x) → Joined w x u → Searched es u r → Searched es w r
   full : {w : Assumptions} → Apart w → FirstJudged w es Open → Full w → Searched es w (Some w.within)
-  try_in : {w u : Assumptions} {v : AtomSet} (a : ℕ) → Apart w → FirstJudged w es Open → LowestOpen w a → Joined w (inside a) u → Searched es u (Some v) → Searched es w (Some v)
-  try_out : {w u t : Assumptions} {r : Option AtomSet} (a : ℕ) → Apart w → FirstJudged w es Open → LowestOpen w a → Joined w (inside a) u → Searched es u None
-      → Joined w (outside a) t → Searched es t r → Searched es w r
+  try_out : {w u : Assumptions} {v : AtomSet} (a : ℕ) → Apart w → FirstJudged w es Open → LowestOpen w a → Joined w (outside a) u → Searched es u (Some v) → Searched es w (Some v)
+  try_in : {w u t : Assumptions} {r : Option AtomSet} (a : ℕ) → Apart w → FirstJudged w es Open → LowestOpen w a → Joined w (outside a) u → Searched es u None
+      → Joined w (inside a) t → Searched es t r → Searched es w r
 
 -- the trail at the start: as assumed, and out the atoms that no entry names and that need not be in
 pub record Started (es : List Entry) (under w : Assumptions) : Type 0 where

@@ -1,7 +1,7 @@
 //! The search oracle.
 //!
 //! It follows a clause whose only undecided literal is the last that can make it true, and otherwise tries the lowest
-//! undecided atom both ways, first in, then out; each trial is a smaller search of the same kind. The trail is a
+//! undecided atom both ways, first out, then in; each trial is a smaller search of the same kind. The trail is a
 //! record of the atoms that are in and out so far, and a guard puts it back at the end of every trial. The relation
 //! `Searched` of `specs/Searches.antt` says which answer this order of trial gives; that such an answer is right is the
 //! lemma `searched_finds` of `proofs/Soundness.antt`.

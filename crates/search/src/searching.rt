@@ -60,12 +60,12 @@ pub(crate) fn search(entries: &[Entry], trail: &mut Assumptions) -> Option<AtomS
             };
             // A block and no `or_else`: the first trial's guard lets go of the trail before the second begins.
             {
-                let trial = Trial::begin(trail, Literal { atom, holds: true });
+                let trial = Trial::begin(trail, Literal { atom, holds: false });
                 if let Some(valuation) = search(entries, trial.trail) {
                     return Some(valuation);
                 }
             }
-            let trial = Trial::begin(trail, Literal { atom, holds: false });
+            let trial = Trial::begin(trail, Literal { atom, holds: true });
             search(entries, trial.trail)
         }
     }

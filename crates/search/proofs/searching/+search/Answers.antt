@@ -54,7 +54,7 @@ pub returns-in-Some-search : goal.returns-in-Some-search
 returns-in-Some-search t c =
     record {
       same = search rules;
-      order = try_in c.in-Some.atom (c.clashes.ensures.apart c.if-clashes.false) c.in-Open.ensures
+      order = try_out c.in-Some.atom (c.clashes.ensures.apart c.if-clashes.false) c.in-Open.ensures
           (lowest_open c.args.trail.now c.undecided.result c.in-Some.atom c.undecided.ensures c.in-Some.ensures)
           c.begin-trial-in-Open.ensures.joined c.in-Some-search.ensures.order;
     }
@@ -63,7 +63,7 @@ pub returns-in_default-search : goal.returns-in_default-search
 returns-in_default-search t c =
     record {
       same = search rules;
-      order = try_out c.in-Some.atom (c.clashes.ensures.apart c.if-clashes.false) c.in-Open.ensures
+      order = try_in c.in-Some.atom (c.clashes.ensures.apart c.if-clashes.false) c.in-Open.ensures
           (lowest_open c.args.trail.now c.undecided.result c.in-Some.atom c.undecided.ensures c.in-Some.ensures)
           c.begin-trial-in-Open.ensures.joined c.in_default-search.ensures.order
           (joined _ c.args.trail.now _ _ (search rules) c.begin-trial-in-Open-2.ensures.joined) c.search-in-Open-2.ensures.order;
