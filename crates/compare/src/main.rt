@@ -7,14 +7,15 @@
 use exhaustive::Exhaustive;
 use oracle::Oracle;
 use plain::Plain;
+use random::Random;
 use search::Searcher;
 use std::{env, io};
 
-mod random;
+mod random_entries;
 mod rounds;
 mod timing;
 
-use random::{Random, Shape};
+use random_entries::Shape;
 use rounds::Comparison;
 use timing::time;
 

@@ -1,5 +1,5 @@
 // Oracles on the same entries and questions, and what must be so of their answers.
-use crate::random::{Random, Shape};
+use crate::random_entries::{Shape, mark};
 use atoms::assumptions::Assumptions;
 use atoms::clauses::{Entry, Mark, all_hold};
 use atoms::levels::Level;
@@ -7,6 +7,7 @@ use atoms::sets::AtomSet;
 use oracle::Oracle;
 use oracle::answers::Solved;
 use oracle::entry_list::{DEFINITIONS, LEARNT};
+use random::Random;
 use std::alloc::{AllocError, Global};
 use std::fmt;
 
@@ -147,7 +148,7 @@ impl Comparison {
 
     fn ask_some(&mut self, held: &Held, shape: Shape) {
         for literals in 0..5 {
-            let under = self.random.assumptions(shape, literals);
+            let under = shape.assumptions(&mut self.random, literals);
             self.ask(held, under);
         }
     }
@@ -161,10 +162,10 @@ impl Comparison {
         entries: u16,
     ) -> Result<(), AllocError> {
         for _ in 0..entries {
-            let mark = self.random.mark();
-            let entry = self.random.entry(shape, mark);
+            let mark = mark(&mut self.random);
+            let entry = shape.entry(&mut self.random, mark);
             self.offer(held, entry)?;
-            let entry = self.random.entry(shape, Mark::Definition);
+            let entry = shape.entry(&mut self.random, Mark::Definition);
             self.offer(other, entry)?;
         }
         Ok(())
@@ -198,7 +199,7 @@ impl Comparison {
         self.ask_some(&other, shape);
         self.forget(&mut held);
         self.ask_some(&held, shape);
-        let entry = self.random.entry(shape, Mark::Learnt);
+        let entry = shape.entry(&mut self.random, Mark::Learnt);
         self.offer(&mut held, entry)?;
         self.ask_some(&held, shape);
         self.clear(&mut held);

@@ -1,13 +1,14 @@
 // How many questions a second the oracles answer.
 ghost use Rattle.std.specs.Prelude.{◌<◌, ◌≤◌};
 
-use crate::random::{Random, Shape};
+use crate::random_entries::Shape;
 use atoms::clauses::Mark;
 use atoms::levels::Level;
 use oracle::answers::LevelFull;
 use oracle::entry_list::{DEFINITIONS, LEARNT};
 use oracle::{Oracle, satisfiable};
 use plain::Plain;
+use random::Random;
 use search::Searcher;
 use std::io;
 use std::time::Instant;
@@ -111,7 +112,7 @@ impl<O: Oracle + Drop> Timed<O> {
 
     fn fill(&mut self, filling: Filling, mark: Mark, shape: Shape) -> Result<(), LevelFull> {
         for _ in 0..filling.entries {
-            let entry = self.random.entry(shape, mark);
+            let entry = shape.entry(&mut self.random, mark);
             self.oracle.take(Level::ROOT, entry)?;
         }
         Ok(())
@@ -134,7 +135,7 @@ impl<O: Oracle + Drop> Timed<O> {
     // Asks the questions, each under two random literals, and says how many were satisfiable.
     fn ask(&mut self, shape: Shape) -> usize {
         let held = (0..QUESTIONS).filter(|_| {
-            let under = self.random.assumptions(shape, 2);
+            let under = shape.assumptions(&mut self.random, 2);
             satisfiable(&mut self.oracle, Level::ROOT, under)
         });
         held.count()

@@ -4,7 +4,6 @@
 
 mod offers;
 mod timing;
-mod writer;
 
 use modal::faults::Fault;
 use offers::Offer;

@@ -1,6 +1,7 @@
 // The offers: for each the rules that a session gets, all of which are asked together.
-use crate::writer::Writer;
+use modal::row::Row;
 use modal::rule::Rule;
+use rule_writer::Writer;
 use std::alloc::{AllocError, Global};
 
 const LANE_PAIR: u8 = 0;
@@ -73,78 +74,82 @@ impl Offer {
 // Some lane pair has a ball return, or has none.
 fn lane_pair(heap: Global, with: bool) -> anyhow::Result<Rule> {
     let mut w = Writer::new(heap);
-    let lane_pair = w.letter(LANE_PAIR)?;
-    let ball_return = w.letter(BALL_RETURN)?;
+    let lane_pair = w.row(Row::Letter(LANE_PAIR))?;
+    let ball_return = w.row(Row::Letter(BALL_RETURN))?;
     let told = if with {
         ball_return
     } else {
-        w.not(ball_return)?
+        w.row(Row::Not(ball_return))?
     };
-    let both = w.and(lane_pair, told)?;
-    let _ = w.some(both)?;
+    let both = w.row(Row::And(lane_pair, told))?;
+    let _ = w.row(Row::Diamond(both))?;
     Ok(w.rule()?)
 }
 
 // Every lane pair has some machine.
 fn machine_in_each(heap: Global) -> anyhow::Result<Rule> {
     let mut w = Writer::new(heap);
-    let machine = w.letter(MACHINE)?;
-    let has = w.some(machine)?;
+    let machine = w.row(Row::Letter(MACHINE))?;
+    let has = w.row(Row::Diamond(machine))?;
     let told = implies(&mut w, LANE_PAIR, has)?;
-    let _ = w.every(told)?;
+    let _ = w.row(Row::Box(told))?;
     Ok(w.rule()?)
 }
 
 // Every machine of every part has a sweep.
 fn sweep_in_each(heap: Global) -> anyhow::Result<Rule> {
     let mut w = Writer::new(heap);
-    let sweep = w.letter(SWEEP)?;
+    let sweep = w.row(Row::Letter(SWEEP))?;
     let told = implies(&mut w, MACHINE, sweep)?;
-    let here = w.every(told)?;
-    let _ = w.every(here)?;
+    let here = w.row(Row::Box(told))?;
+    let _ = w.row(Row::Box(here))?;
     Ok(w.rule()?)
 }
 
 // No part of a part has strings and a sweep.
 fn no_sweep_with_strings(heap: Global) -> anyhow::Result<Rule> {
     let mut w = Writer::new(heap);
-    let sweep = w.letter(SWEEP)?;
-    let none = w.not(sweep)?;
+    let sweep = w.row(Row::Letter(SWEEP))?;
+    let none = w.row(Row::Not(sweep))?;
     let told = implies(&mut w, STRINGS, none)?;
-    let here = w.every(told)?;
-    let _ = w.every(here)?;
+    let here = w.row(Row::Box(told))?;
+    let _ = w.row(Row::Box(here))?;
     Ok(w.rule()?)
 }
 
 // Some part has a machine with strings.
 fn strings_somewhere(heap: Global) -> anyhow::Result<Rule> {
     let mut w = Writer::new(heap);
-    let machine = w.letter(MACHINE)?;
-    let strings = w.letter(STRINGS)?;
-    let both = w.and(machine, strings)?;
-    let here = w.some(both)?;
-    let _ = w.some(here)?;
+    let machine = w.row(Row::Letter(MACHINE))?;
+    let strings = w.row(Row::Letter(STRINGS))?;
+    let both = w.row(Row::And(machine, strings))?;
+    let here = w.row(Row::Diamond(both))?;
+    let _ = w.row(Row::Diamond(here))?;
     Ok(w.rule()?)
 }
 
 // Not the letter, or the row.
 fn implies(w: &mut Writer, letter: u8, row: u8) -> Result<u8, AllocError> {
-    let told = w.letter(letter)?;
-    let not = w.not(told)?;
-    w.or(not, row)
+    let told = w.row(Row::Letter(letter))?;
+    let not = w.row(Row::Not(told))?;
+    w.row(Row::Or(not, row))
 }
 
 // Parts with the letter 0, with 1 and with 2, each with such parts again, six levels deep.
 fn hall(heap: Global) -> anyhow::Result<Rule> {
     let mut w = Writer::new(heap);
-    let kinds = [w.letter(0)?, w.letter(1)?, w.letter(2)?];
-    let mut below = w.always()?;
+    let kinds = [
+        w.row(Row::Letter(0))?,
+        w.row(Row::Letter(1))?,
+        w.row(Row::Letter(2))?,
+    ];
+    let mut below = w.row(Row::True)?;
     for _ in 0..6 {
-        let mut all = w.always()?;
+        let mut all = w.row(Row::True)?;
         for kind in kinds {
-            let part = w.and(kind, below)?;
-            let some = w.some(part)?;
-            all = w.and(all, some)?;
+            let part = w.row(Row::And(kind, below))?;
+            let some = w.row(Row::Diamond(part))?;
+            all = w.row(Row::And(all, some))?;
         }
         below = all;
     }
@@ -154,15 +159,15 @@ fn hall(heap: Global) -> anyhow::Result<Rule> {
 // Each of so many letters at every part, or at none, and a part where nothing may be.
 fn choices(heap: Global, letters: u8) -> anyhow::Result<Rule> {
     let mut w = Writer::new(heap);
-    let nothing = w.never()?;
-    let mut all = w.some(nothing)?;
+    let nothing = w.row(Row::False)?;
+    let mut all = w.row(Row::Diamond(nothing))?;
     for letter in 0..letters {
-        let told = w.letter(letter)?;
-        let every = w.every(told)?;
-        let not = w.not(told)?;
-        let none = w.every(not)?;
-        let choice = w.or(every, none)?;
-        all = w.and(all, choice)?;
+        let told = w.row(Row::Letter(letter))?;
+        let every = w.row(Row::Box(told))?;
+        let not = w.row(Row::Not(told))?;
+        let none = w.row(Row::Box(not))?;
+        let choice = w.row(Row::Or(every, none))?;
+        all = w.row(Row::And(all, choice))?;
     }
     Ok(w.rule()?)
 }
