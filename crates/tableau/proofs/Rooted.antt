@@ -1,0 +1,97 @@
+-- A branch with no more claims on the world itself: it is open exactly if each of its claims on successors is.
+use Rattle.std.proofs.Common.{◌≡◌, ℕ, ◌+◌, ◌<◌, Bool, true, false, cond, not, ◌&&◌, eqb, ltb, List, [], ◌∷◌, ◌++◌, length, sym, refl, ap, ◌∙◌, subst, inl, inr, arith, length-append}
+use Rattle.std.proofs.lemmas.Bool.{and_parts, and_from, cases_Bool, lt-ltb, eq-eqb, eqb-true}
+use Rattle.std.proofs.lemmas.List.{get_or_at}
+use Rattle.lists.specs.Lists.{every, some, In}
+use Rattle.lists.proofs.Members.{every_in, every_from, some_in, some_from, get_or_in, in_either, in_one}
+use Rattle.modal.specs.Kripke.{World, bare, world}
+use Rattle.tableau.specs.Branches.{Branch, Open, AllOpen, AnswersAll, Answers, Consistent}
+use Rattle.tableau.specs.Claims.{Signed, holds, opposite}
+use Rattle.tableau.specs.declared.claims.Literal.{Literal}
+use Rattle.tableau.proofs.Unions.{Closed}
+use Rattle.tableau.proofs.Gathering.{Gathered, gathered, closed_model, holds_front}
+
+closed_test : (b : ℕ) (ws : List World) → Closed b ws → every (λ x. every (λ v. ltb v b) x.successors) ws ≡ true
+closed_test b ws h = every_from _ ws (λ x i. every_from _ x.successors (λ v j. lt-ltb v b (h x i v j)))
+
+same_literal : (k l : Literal) → k.plus ≡ not l.plus → k.letter ≡ l.letter → k ≡ opposite l
+same_literal k l p e = λ i. record { letter = e i; plus = p i }
+
+-- a new world over the gathered ones, with the letters of the literals
+module _ (ls : List Literal) (bs ds : List Signed) (consistent : Consistent ls) (g : Gathered bs ds) where
+  abbrev says_letter : ℕ → Literal → Bool
+  says_letter a l = l.plus && eqb a l.letter
+
+  abbrev root : World
+  root = record { letters = λ a. some (says_letter a) ls; successors = g.chosen }
+
+  abbrev rooted : List World
+  rooted = g.worlds ++ root ∷ []
+
+  agreed : (l : Literal) (b : Bool) → l.plus ≡ b → In l ls → cond b (some (says_letter l.letter) ls) (not (some (says_letter l.letter) ls)) ≡ true
+  agreed l true e i = some_from (says_letter l.letter) i (and_from _ _ e (eq-eqb l.letter l.letter refl))
+  agreed l false e i = elim (cases_Bool (some (says_letter l.letter) ls)) [
+    | inl h ↦
+        let (k, j, q) = some_in (says_letter l.letter) ls h in
+        let (p, r) = and_parts k.plus (eqb l.letter k.letter) q in
+        absurd (consistent l i (subst (λ z. In z ls) (same_literal k l (p ∙ sym (ap not e)) (sym (eqb-true l.letter k.letter r))) j))
+    | inr h ↦ ap not h
+  ]
+
+  longer : length rooted ≡ length g.worlds + 1
+  longer = length-append g.worlds (root ∷ [])
+
+  closed_rooted : Closed (length rooted) rooted
+  closed_rooted x i v j = elim (in_either g.worlds (root ∷ []) i) [
+    | inl l ↦ omega (arith, longer, g.closed x l v j)
+    | inr r ↦ omega (arith, longer, g.inside v (subst (λ (y : World). In v y.successors) (sym (in_one r)) j))
+  ]
+
+  root_there : world rooted (length g.worlds) ≡ root
+  root_there = get_or_at g.worlds root [] bare (length g.worlds) refl
+
+  as_before : (v : ℕ) → In v g.chosen → (s : Signed) → holds s rooted v ≡ holds s g.worlds v
+  as_before v i s = holds_front g.worlds (root ∷ []) g.closed s v (g.inside v i)
+
+  roots : Open (record { claims = []; literals = ls; everywhere = bs; somewhere = ds })
+  roots = record {
+    model = record { worlds = rooted; inhabited = omega (arith, longer); inside = closed_test (length rooted) rooted closed_rooted };
+    number = length g.worlds;
+    inside = omega (arith, longer);
+    fulfils = record {
+      claims = refl;
+      literals = rw root_there (every_from _ ls (λ l i. agreed l l.plus refl i));
+      everywhere = rw root_there (every_from _ bs (λ s i. every_from _ g.chosen (λ v j. as_before v j s ∙ g.everywhere v j s i)));
+      somewhere = rw root_there (every_from _ ds (λ s i. let (v, j, h) = g.somewhere s i in some_from (holds s rooted) j (as_before v j s ∙ h)));
+    };
+  }
+
+-- and the other way: the successors of a world as the branch asks
+module _ (b : Branch) (o : Open b) where
+  abbrev successors : List ℕ
+  successors = (world o.model.worlds o.number).successors
+
+  successor_inside : (v : ℕ) → In v successors → v < length o.model.worlds
+  successor_inside v i = closed_model o.model (world o.model.worlds o.number) (get_or_in o.model.worlds o.number bare o.inside) v i
+
+  reached : (ds : List Signed) → every (λ s. some (holds s o.model.worlds) successors) ds ≡ true → AllOpen b.everywhere ds
+  reached [] h = tt
+  reached (d ∷ ds) h =
+      let (f, r) = and_parts (some (holds d o.model.worlds) successors) (every (λ s. some (holds s o.model.worlds) successors) ds) h in
+      let (v, i, e) = some_in (holds d o.model.worlds) successors f in (
+        record {
+          model = o.model;
+          number = v;
+          inside = successor_inside v i;
+          fulfils = record {
+            claims = and_from _ _ e (every_from _ b.everywhere (λ s j. every_in (holds s o.model.worlds) i (every_in (λ s. every (holds s o.model.worlds) successors) j o.fulfils.everywhere)));
+            literals = refl;
+            everywhere = refl;
+            somewhere = refl;
+          };
+        },
+        reached ds r,
+      )
+
+pub beyond : (ls : List Literal) (bs ds : List Signed) (met : Bool) → Consistent ls → AnswersAll bs ds met → Answers (record { claims = []; literals = ls; everywhere = bs; somewhere = ds }) met
+beyond ls bs ds met c a = ((λ e. roots ls bs ds c (gathered bs ds (a.0 e))), (λ e o. a.1 e (reached _ o ds o.fulfils.somewhere)))

@@ -1,0 +1,86 @@
+// A branch of the tableau: what is asked of one world, and what that comes down to for its successors.
+//
+// A branch is open if some world of some Kripke model is as it asks.
+ghost use Rattle.std.specs.Prelude.{◌≡◌};
+ghost use Rattle.tableau.specs.Branches.{Answers, AnswersAll, Consistent, asks, branch_of};
+ghost use Rattle.tableau.specs.Claims.{claims_of, literals_of};
+
+use crate::claims::Step;
+use crate::linked::{Claims, Literals};
+
+// What claims on a world came down to: literals that are true there, claims on each of its successors, and claims on
+// one of them each.
+#[derive(Clone, Copy)]
+struct Settled<'a> {
+    literals: &'a Literals<'a>,
+    everywhere: &'a Claims<'a>,
+    somewhere: &'a Claims<'a>,
+}
+
+// Whether the claims are right at some world of some Kripke model.
+#[cycle(branches)]
+pub(crate) fn can_be_right(claims: &Claims<'_>) -> bool
+    ensures { Answers (asks (claims_of claims.now)) result }
+{
+    let nothing = Settled {
+        literals: &Literals::Empty,
+        everywhere: &Claims::Empty,
+        somewhere: &Claims::Empty,
+    };
+    is_open(claims, nothing)
+}
+
+// Whether the branch of these claims on the world, and of what is settled, is open.
+#[cycle(branches)]
+fn is_open(claims: &Claims<'_>, settled: Settled<'_>) -> bool
+    requires { Consistent (literals_of settled.literals.now) }
+    ensures { Answers (branch_of claims.now settled.entry) result }
+{
+    let Claims::More(claim, rest) = claims else {
+        return each_can_be_right(settled.somewhere, settled.everywhere);
+    };
+    match claim.step() {
+        Step::Never => false,
+        Step::Always => is_open(rest, settled),
+        Step::Letter(literal) => {
+            let literals = &Literals::More(literal, settled.literals);
+            let more = Settled {
+                literals,
+                ..settled
+            };
+            !settled.literals.contains(literal.opposite()) && is_open(rest, more)
+        }
+        Step::Same(c) => is_open(&Claims::More(c, &*rest), settled),
+        Step::Both(c, d) => is_open(&Claims::More(c, &Claims::More(d, &*rest)), settled),
+        Step::Either(c, d) => {
+            is_open(&Claims::More(c, &*rest), settled) || is_open(&Claims::More(d, &*rest), settled)
+        }
+        Step::Everywhere(c) => {
+            let everywhere = &Claims::More(c, settled.everywhere);
+            let more = Settled {
+                everywhere,
+                ..settled
+            };
+            is_open(rest, more)
+        }
+        Step::Somewhere(c) => {
+            let somewhere = &Claims::More(c, settled.somewhere);
+            let more = Settled {
+                somewhere,
+                ..settled
+            };
+            is_open(rest, more)
+        }
+    }
+}
+
+// Whether each of the claims can be right together with all of `everywhere`.
+#[cycle(branches)]
+fn each_can_be_right(claims: &Claims<'_>, everywhere: &Claims<'_>) -> bool
+    ensures { AnswersAll (claims_of everywhere.now) (claims_of claims.now) result }
+{
+    let Claims::More(claim, rest) = claims else {
+        return true;
+    };
+    can_be_right(&Claims::More(*claim, &*everywhere)) && each_can_be_right(rest, everywhere)
+}
