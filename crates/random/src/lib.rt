@@ -3,6 +3,9 @@
 
 ghost use Rattle.std.specs.Prelude.{◌<◌};
 
+// Half of its bits are set.
+const FAR: u64 = 0x9e37_79b9_7f4a_7c15;
+
 /// A generator of random numbers (xorshift).
 #[derive(Drop)]
 pub struct Random {
@@ -11,8 +14,10 @@ pub struct Random {
 
 impl Random {
     pub fn new(seed: u64) -> Random {
-        // a state of 0 would stay 0
-        Random { state: seed | 1 }
+        // far from 0 for a small seed, and never 0, which would stay 0
+        Random {
+            state: seed.wrapping_add(FAR).max(1),
+        }
     }
 
     fn number(&mut self) -> u64 {

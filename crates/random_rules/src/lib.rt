@@ -59,11 +59,11 @@ impl Draft<'_> {
         }
     }
 
-    // One literal of the depth, and up to two more, which are shallow: a rule has at most 64 rows.
+    // One literal of the depth, and perhaps one more, which is shallow: a rule has at most 64 rows.
     #[cycle(modal_clause)]
     fn clause(&mut self, depth: u8) -> Result<u8, AllocError> {
         let mut row = self.literal(depth)?;
-        for _ in 0..self.random.below(3) {
+        for _ in 0..self.random.below(2) {
             let other = self.literal(depth.min(1))?;
             row = self.writer.row(Row::Or(row, other))?;
         }
