@@ -2,7 +2,7 @@
 use modal::rule::Rule;
 use oracle::Oracle;
 use random::Random;
-use random_rules::{Shape, draw};
+use random_rules::{Shape, draw_all};
 use rule_writer::Writer;
 use search::Searcher;
 use session::session::Session;
@@ -22,12 +22,9 @@ impl RuleSet {
     pub(crate) fn draw(random: &mut Random, heap: Global) -> Result<RuleSet, AllocError> {
         let letters = 1 + random.below(3);
         let depth = 1 + random.below(3);
-        let shape = Shape { letters, depth };
-        let mut rules = Vec::new(heap);
         // more rules over more letters, so that about as many sets can be met as not
-        for _ in 0..3 + letters + random.below(4) {
-            rules.push(draw(random, shape, heap)?)?;
-        }
+        let count = 3 + letters + random.below(4);
+        let rules = draw_all(random, Shape { letters, depth }, count, heap)?;
         Ok(RuleSet { rules, heap })
     }
 
@@ -78,10 +75,7 @@ impl RuleSet {
 impl fmt::Display for RuleSet {
     fn fmt<W: fmt::Write>(&self, f: &mut fmt::Formatter<W>) -> fmt::Result {
         for writer in &self.rules {
-            write!(f, " ")?;
-            for byte in writer.bytes() {
-                write!(f, "{byte:02X}")?;
-            }
+            write!(f, " {writer}")?;
         }
         Ok(())
     }

@@ -1,6 +1,5 @@
 // The offers: for each the rules that a session gets, all of which are asked together.
 use modal::row::Row;
-use modal::rule::Rule;
 use rule_writer::Writer;
 use std::alloc::{AllocError, Global};
 
@@ -49,7 +48,7 @@ impl Offer {
     }
 
     /// The rules of the offer.
-    pub(crate) fn rules(self, heap: Global) -> anyhow::Result<Vec<Rule>> {
+    pub(crate) fn rules(self, heap: Global) -> Result<Vec<Writer>, AllocError> {
         let mut rules = Vec::new(heap);
         match self {
             Offer::TwoLanePairs => {
@@ -72,7 +71,7 @@ impl Offer {
 }
 
 // Some lane pair has a ball return, or has none.
-fn lane_pair(heap: Global, with: bool) -> anyhow::Result<Rule> {
+fn lane_pair(heap: Global, with: bool) -> Result<Writer, AllocError> {
     let mut w = Writer::new(heap);
     let lane_pair = w.row(Row::Letter(LANE_PAIR))?;
     let ball_return = w.row(Row::Letter(BALL_RETURN))?;
@@ -83,49 +82,49 @@ fn lane_pair(heap: Global, with: bool) -> anyhow::Result<Rule> {
     };
     let both = w.row(Row::And(lane_pair, told))?;
     let _ = w.row(Row::Diamond(both))?;
-    Ok(w.rule()?)
+    Ok(w)
 }
 
 // Every lane pair has some machine.
-fn machine_in_each(heap: Global) -> anyhow::Result<Rule> {
+fn machine_in_each(heap: Global) -> Result<Writer, AllocError> {
     let mut w = Writer::new(heap);
     let machine = w.row(Row::Letter(MACHINE))?;
     let has = w.row(Row::Diamond(machine))?;
     let told = implies(&mut w, LANE_PAIR, has)?;
     let _ = w.row(Row::Box(told))?;
-    Ok(w.rule()?)
+    Ok(w)
 }
 
 // Every machine of every part has a sweep.
-fn sweep_in_each(heap: Global) -> anyhow::Result<Rule> {
+fn sweep_in_each(heap: Global) -> Result<Writer, AllocError> {
     let mut w = Writer::new(heap);
     let sweep = w.row(Row::Letter(SWEEP))?;
     let told = implies(&mut w, MACHINE, sweep)?;
     let here = w.row(Row::Box(told))?;
     let _ = w.row(Row::Box(here))?;
-    Ok(w.rule()?)
+    Ok(w)
 }
 
 // No part of a part has strings and a sweep.
-fn no_sweep_with_strings(heap: Global) -> anyhow::Result<Rule> {
+fn no_sweep_with_strings(heap: Global) -> Result<Writer, AllocError> {
     let mut w = Writer::new(heap);
     let sweep = w.row(Row::Letter(SWEEP))?;
     let none = w.row(Row::Not(sweep))?;
     let told = implies(&mut w, STRINGS, none)?;
     let here = w.row(Row::Box(told))?;
     let _ = w.row(Row::Box(here))?;
-    Ok(w.rule()?)
+    Ok(w)
 }
 
 // Some part has a machine with strings.
-fn strings_somewhere(heap: Global) -> anyhow::Result<Rule> {
+fn strings_somewhere(heap: Global) -> Result<Writer, AllocError> {
     let mut w = Writer::new(heap);
     let machine = w.row(Row::Letter(MACHINE))?;
     let strings = w.row(Row::Letter(STRINGS))?;
     let both = w.row(Row::And(machine, strings))?;
     let here = w.row(Row::Diamond(both))?;
     let _ = w.row(Row::Diamond(here))?;
-    Ok(w.rule()?)
+    Ok(w)
 }
 
 // Not the letter, or the row.
@@ -136,7 +135,7 @@ fn implies(w: &mut Writer, letter: u8, row: u8) -> Result<u8, AllocError> {
 }
 
 // Parts with the letter 0, with 1 and with 2, each with such parts again, six levels deep.
-fn hall(heap: Global) -> anyhow::Result<Rule> {
+fn hall(heap: Global) -> Result<Writer, AllocError> {
     let mut w = Writer::new(heap);
     let kinds = [
         w.row(Row::Letter(0))?,
@@ -153,11 +152,11 @@ fn hall(heap: Global) -> anyhow::Result<Rule> {
         }
         below = all;
     }
-    Ok(w.rule()?)
+    Ok(w)
 }
 
 // Each of so many letters at every part, or at none, and a part where nothing may be.
-fn choices(heap: Global, letters: u8) -> anyhow::Result<Rule> {
+fn choices(heap: Global, letters: u8) -> Result<Writer, AllocError> {
     let mut w = Writer::new(heap);
     let nothing = w.row(Row::False)?;
     let mut all = w.row(Row::Diamond(nothing))?;
@@ -169,5 +168,5 @@ fn choices(heap: Global, letters: u8) -> anyhow::Result<Rule> {
         let choice = w.row(Row::Or(every, none))?;
         all = w.row(Row::And(all, choice))?;
     }
-    Ok(w.rule()?)
+    Ok(w)
 }

@@ -71,8 +71,8 @@ impl Draft<'_> {
     }
 }
 
-/// A rule of the shape.
-pub fn draw(random: &mut Random, shape: Shape, heap: Global) -> Result<Writer, AllocError> {
+// A rule of the shape.
+fn draw(random: &mut Random, shape: Shape, heap: Global) -> Result<Writer, AllocError> {
     let mut draft = Draft {
         writer: Writer::new(heap),
         random,
@@ -80,4 +80,18 @@ pub fn draw(random: &mut Random, shape: Shape, heap: Global) -> Result<Writer, A
     };
     draft.clause(shape.depth)?;
     Ok(draft.writer)
+}
+
+/// So many rules of the shape.
+pub fn draw_all(
+    random: &mut Random,
+    shape: Shape,
+    count: u8,
+    heap: Global,
+) -> Result<Vec<Writer>, AllocError> {
+    let mut rules = Vec::new(heap);
+    for _ in 0..count {
+        rules.push(draw(random, shape, heap)?)?;
+    }
+    Ok(rules)
 }

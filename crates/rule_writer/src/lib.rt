@@ -11,6 +11,7 @@ use modal::faults::ReadFault;
 use modal::row::Row;
 use modal::rule::Rule;
 use std::alloc::{AllocError, Global};
+use std::fmt;
 
 /// The rows so far.
 #[derive(Drop)]
@@ -66,5 +67,15 @@ impl Writer {
         let mut rule = Rule::new();
         rule.read(&self.bytes)?;
         Ok(rule)
+    }
+}
+
+/// The bytes, two hexadecimal digits each.
+impl fmt::Display for Writer {
+    fn fmt<W: fmt::Write>(&self, f: &mut fmt::Formatter<W>) -> fmt::Result {
+        for byte in &self.bytes {
+            write!(f, "{byte:02X}")?;
+        }
+        Ok(())
     }
 }
