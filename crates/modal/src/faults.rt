@@ -1,6 +1,7 @@
 // What was wrong with the bytes of a rule, and where; and with the buffer that a rule was to be written to.
-ghost use Rattle.std.specs.Prelude.{◌≡◌};
+ghost use Rattle.std.specs.Prelude.{◌≡◌, Some, codes};
 ghost use Rattle.modal.specs.Faults.{Refusal, read_refusal, read_start, write_refusal};
+ghost use Rattle.modal.specs.Words.{read_reason, read_words, write_words};
 
 use crate::row_list::MAX_ROWS;
 use std::error::Error;
@@ -54,7 +55,9 @@ impl ReadFault {
         }
     }
 
-    fn words(self) -> &'static str {
+    fn words(self) -> &'static str
+        ensures { result.now ≡ read_reason self }
+    {
         match self {
             ReadFault::NoBytes => "there are no bytes",
             ReadFault::UnknownKind(_) => "the kind is over 07",
@@ -91,6 +94,8 @@ impl Fault for ReadFault {
 }
 
 impl fmt::Display for ReadFault {
+    ghost output = { λ fault. Some (read_words fault) };
+
     fn fmt<W: fmt::Write>(&self, f: &mut fmt::Formatter<W>) -> fmt::Result {
         let RowStart { row, byte } = self.start();
         let words = self.words();
@@ -124,6 +129,8 @@ impl Fault for WriteFault {
 }
 
 impl fmt::Display for WriteFault {
+    ghost output = { λ fault. Some (write_words fault) };
+
     fn fmt<W: fmt::Write>(&self, f: &mut fmt::Formatter<W>) -> fmt::Result {
         match *self {
             WriteFault::TooShort(needed) => write!(
@@ -141,6 +148,8 @@ impl Error for WriteFault {}
 pub struct NoRows;
 
 impl fmt::Display for NoRows {
+    ghost output = { λ _. Some (codes "there is no row") };
+
     fn fmt<W: fmt::Write>(&self, f: &mut fmt::Formatter<W>) -> fmt::Result {
         f.write_str("there is no row")
     }

@@ -1,9 +1,10 @@
 // One row of a rule: a formula over the rows before it, by their numbers.
-ghost use Rattle.std.specs.Prelude.{◌≡◌, length, MatchResult};
+ghost use Rattle.std.specs.Prelude.{◌≡◌, length, MatchResult, Some};
 ghost use Rattle.modal.specs.Rows.{children_earlier, letter_in_range};
 ghost use Rattle.modal.specs.Format.{bytes_of};
 ghost use Rattle.modal.specs.Kinds.{kind_of};
 ghost use Rattle.modal.specs.Reading.{Front, Unread};
+ghost use Rattle.modal.specs.Words.{row_words};
 
 use crate::faults::{ReadFault, RowStart};
 use crate::kind::Kind;
@@ -26,6 +27,8 @@ pub enum Row {
 }
 
 impl fmt::Display for Row {
+    ghost output = { λ row. Some (row_words row) };
+
     fn fmt<W: fmt::Write>(&self, f: &mut fmt::Formatter<W>) -> fmt::Result {
         match *self {
             Row::False => write!(f, "false"),
