@@ -77,6 +77,9 @@ impl Level {
     }
 }
 
+// The constants, where no contract above this crate asks for the number.
+const _: () = prove!(Level::DEEPEST.number == 7);
+
 // The number of the level as an index.
 impl From<Level> for usize {
     ghost from_gives = { λ level n. (n ≡ level) × (n < 8) };

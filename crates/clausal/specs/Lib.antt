@@ -1,4 +1,5 @@
 pub mod Faults
+pub mod Words
 pub mod States
 pub mod Places
 pub mod Clausal

@@ -1,5 +1,7 @@
 // Why a rule is not taken in.
+ghost use Rattle.std.specs.Prelude.{Some};
 ghost use Rattle.clausal.specs.Faults.{add_refusal};
+ghost use Rattle.clausal.specs.Words.{add_words};
 
 use modal::faults::Fault;
 use std::error::Error;
@@ -16,6 +18,8 @@ pub enum AddFault {
 }
 
 impl fmt::Display for AddFault {
+    ghost output = { λ fault. Some (add_words fault) };
+
     fn fmt<W: fmt::Write>(&self, f: &mut fmt::Formatter<W>) -> fmt::Result {
         match *self {
             AddFault::TooManyRules => write!(f, "16 rules are held"),

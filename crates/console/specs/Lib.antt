@@ -1,4 +1,5 @@
 pub mod Faults
+pub mod Words
 pub mod Pieces
 pub mod Splitting
 pub mod Lines

@@ -1,6 +1,7 @@
 // Why a command is refused, whichever layer refuses it.
-ghost use Rattle.std.specs.Prelude.{◌≡◌};
+ghost use Rattle.std.specs.Prelude.{◌≡◌, Some};
 ghost use Rattle.console.specs.Faults.{input_refusal, console_refusal};
+ghost use Rattle.console.specs.Words.{input_words, console_words};
 ghost use Rattle.console.specs.declared.faults.ConsoleFault.TheVariants as layer;
 
 use clausal::faults::AddFault;
@@ -23,6 +24,8 @@ pub enum InputFault {
 }
 
 impl fmt::Display for InputFault {
+    ghost output = { λ fault. Some (input_words fault) };
+
     fn fmt<W: fmt::Write>(&self, f: &mut fmt::Formatter<W>) -> fmt::Result {
         let words = match *self {
             InputFault::UnknownKind => "the kind is over 0a",
@@ -63,6 +66,8 @@ pub enum ConsoleFault {
 }
 
 impl fmt::Display for ConsoleFault {
+    ghost output = { λ fault. Some (console_words fault) };
+
     fn fmt<W: fmt::Write>(&self, f: &mut fmt::Formatter<W>) -> fmt::Result {
         match *self {
             ConsoleFault::Input(fault) => write!(f, "the input: {fault}"),

@@ -1,5 +1,6 @@
 // Why a text says no bytes.
-ghost use Rattle.std.specs.Prelude.{◌≡◌};
+ghost use Rattle.std.specs.Prelude.{◌≡◌, Some};
+ghost use Rattle.hex_text.specs.Words.{text_words};
 ghost use Rattle.hex_text.specs.declared.faults.TextFault.TheVariants.{Memory};
 
 use std::alloc::AllocFailed;
@@ -16,6 +17,8 @@ pub enum TextFault {
 }
 
 impl fmt::Display for TextFault {
+    ghost output = { λ fault. Some (text_words fault) };
+
     fn fmt<W: fmt::Write>(&self, f: &mut fmt::Formatter<W>) -> fmt::Result {
         match *self {
             TextFault::Unexpected(at) => write!(

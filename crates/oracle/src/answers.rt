@@ -1,3 +1,5 @@
+ghost use Rattle.std.specs.Prelude.{Some, codes};
+
 use atoms::assumptions::Assumptions;
 use atoms::sets::AtomSet;
 use std::error::Error;
@@ -11,6 +13,8 @@ pub type Solved = Result<AtomSet, Assumptions>;
 pub struct LevelFull;
 
 impl fmt::Display for LevelFull {
+    ghost output = { λ _. Some (codes "the level holds as many entries of the mark as it may") };
+
     fn fmt<W: fmt::Write>(&self, f: &mut fmt::Formatter<W>) -> fmt::Result {
         write!(f, "the level holds as many entries of the mark as it may")
     }

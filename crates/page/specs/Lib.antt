@@ -1,2 +1,3 @@
 pub mod Pages
 pub mod Verdicts
+pub mod Words

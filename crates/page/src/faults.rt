@@ -1,6 +1,9 @@
 // What was wrong with a page, and in which layer: the text, the rule that it has, or the sheet.
-ghost use Rattle.std.specs.Prelude.{◌≡◌};
+ghost use Rattle.std.specs.Prelude.{◌≡◌, Some};
 ghost use Rattle.page.specs.declared.faults.PageFault.TheVariants as fault;
+ghost use Rattle.page.specs.Words.{text_words, refusal_words, page_words};
+ghost use Rattle.std.specs.Fmt.{DisplaysOnOk};
+ghost use Rattle.std.specs.Option.{option_map};
 
 use modal::faults::{Fault, ReadFault};
 use sheet::faults::SheetFault;
@@ -20,6 +23,8 @@ pub enum TextFault {
 }
 
 impl fmt::Display for TextFault {
+    ghost output = { λ fault. Some (text_words fault) };
+
     fn fmt<W: fmt::Write>(&self, f: &mut fmt::Formatter<W>) -> fmt::Result {
         match *self {
             TextFault::Unexpected(at) => write!(f, "byte {at}: no digit, blank or end of a line"),
@@ -42,6 +47,8 @@ pub enum PageFault {
 }
 
 impl fmt::Display for PageFault {
+    ghost output = { λ fault. Some (page_words fault) };
+
     fn fmt<W: fmt::Write>(&self, f: &mut fmt::Formatter<W>) -> fmt::Result {
         match *self {
             PageFault::Text(fault) => write!(f, "the text, {fault}"),
@@ -59,7 +66,9 @@ fn refusal<F: Fault + Copy, W: fmt::Write>(
     fault: F,
     layer: &str,
     f: &mut fmt::Formatter<W>,
-) -> fmt::Result {
+) -> fmt::Result
+    ensures { DisplaysOnOk W.Write.write_str_gives f.old result (option_map (refusal_words (F.Fault.refusal fault) layer.now) (F.Display.output fault)) f.new }
+{
     let number = fault.number();
     let detail = fault.detail();
     write!(f, "{number}, detail {detail}: the {layer}, {fault}")

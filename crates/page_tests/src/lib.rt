@@ -4,7 +4,9 @@
 
 #[cfg(test)]
 mod tests {
+    use atoms::sets::AtomSet;
     use page::check::check as verdict;
+    use page::drawing::Drawing;
     use sheet::row::SheetRow;
     use std::alloc::{AllocError, Global};
     use std::process::Abort;
@@ -85,6 +87,30 @@ mod tests {
             "false",
         )?;
         says(&rt, heap, b"02 00 07 00\n0 0", "false")
+    }
+
+    fn world(parent: u64, level: u8, letters: AtomSet) -> SheetRow {
+        SheetRow {
+            parent,
+            level,
+            letters,
+        }
+    }
+
+    #[test]
+    fn each_world_is_drawn_under_its_parent(rt: HostRuntime) -> Result<(), Fail> {
+        let none = AtomSet::NONE;
+        let sheet = [
+            world(0, 0, none.insert(0).insert(14)),
+            world(0, 1, none),
+            world(0, 1, none.insert(3)),
+            world(1, 2, none.insert(7)),
+        ];
+        let drawing = Drawing(&sheet);
+        let text = format!(in rt.alloc(); "{drawing}")?;
+        let lines = "world 0: 0 14\n  world 1: no letters\n    world 3: 7\n  world 2: 3\n";
+        assert_eq!(rt; text.as_str(), lines);
+        Ok(())
     }
 
     #[test]

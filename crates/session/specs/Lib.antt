@@ -1,5 +1,6 @@
 pub mod View
 pub mod Faults
+pub mod Words
 pub mod Replies
 pub mod Effects
 pub mod Runs

@@ -1,5 +1,7 @@
 // Why a question is refused, and why a rule that a session holds is not written.
+ghost use Rattle.std.specs.Prelude.{Some};
 ghost use Rattle.session.specs.Faults.{question_refusal, rule_refusal};
+ghost use Rattle.session.specs.Words.{question_words, rule_words};
 
 use atoms::levels::Level;
 use modal::faults::{Fault, WriteFault};
@@ -16,6 +18,8 @@ pub enum QuestionFault {
 }
 
 impl fmt::Display for QuestionFault {
+    ghost output = { λ fault. Some (question_words fault) };
+
     fn fmt<W: fmt::Write>(&self, f: &mut fmt::Formatter<W>) -> fmt::Result {
         match *self {
             QuestionFault::UnknownRule(number) => write!(f, "no rule has the number {number}"),
@@ -71,6 +75,8 @@ impl From<WriteFault> for RuleFault {
 }
 
 impl fmt::Display for RuleFault {
+    ghost output = { λ fault. Some (rule_words fault) };
+
     fn fmt<W: fmt::Write>(&self, f: &mut fmt::Formatter<W>) -> fmt::Result {
         match *self {
             RuleFault::NotAccepted(number) => write!(f, "no rule has the number {number}"),

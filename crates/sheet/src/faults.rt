@@ -1,5 +1,7 @@
 // What was wrong with a sheet.
+ghost use Rattle.std.specs.Prelude.{Some};
 ghost use Rattle.sheet.specs.Faults.{sheet_refusal};
+ghost use Rattle.sheet.specs.Words.{sheet_words};
 
 use modal::faults::Fault;
 use std::error::Error;
@@ -32,6 +34,8 @@ impl Fault for SheetFault {
 }
 
 impl fmt::Display for SheetFault {
+    ghost output = { λ fault. Some (sheet_words fault) };
+
     fn fmt<W: fmt::Write>(&self, f: &mut fmt::Formatter<W>) -> fmt::Result {
         match *self {
             SheetFault::NoRoot => write!(f, "it is empty or its first row is blank"),
