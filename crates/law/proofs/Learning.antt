@@ -1,11 +1,12 @@
 -- What is learnt is forced, needed and made of negated names; and what a core at level 0 shows.
 use Rattle.std.proofs.Common.{◌≡◌, ℕ, suc, ◌<◌, true, false, not, ◌⊎◌, List, [], ◌∷◌, length, sym, refl, ap, ◌∙◌, inl, inr}
 use mathlib.Core.Bool.{false≢true}
-use Rattle.std.proofs.lemmas.Bool.{both_ways, cases_Bool, ltb-true}
+use Rattle.std.proofs.lemmas.Bool.{both_ways, cases_Bool}
 use Rattle.lists.specs.Lists.{In, here, there}
-use Rattle.lists.proofs.Members.{every_in, every_from, kept_in, in_kept, get_or_in}
-use Rattle.modal.specs.Kripke.{Model, World, world, bare, meets}
+use Rattle.lists.proofs.Members.{every_in, every_from, kept_in, in_kept}
+use Rattle.modal.specs.Kripke.{Model, World, meets}
 use Rattle.modal.specs.Rows.{says}
+use Rattle.modal.proofs.Models.{successor_inside}
 use Rattle.atoms.specs.Clauses.{Valuation, obeys_one, makes, makes_all, is_learnt, is_definition, learnt}
 use Rattle.atoms.specs.Sets.{has}
 use Rattle.atoms.specs.declared.clauses.Clause.{Clause}
@@ -19,10 +20,6 @@ use Rattle.clausal.proofs.Forms.{clause_made, clause_cases}
 use Rattle.clausal.proofs.Reading.{handle_at, reading_name}
 use Rattle.clausal.proofs.Soundness.{definition_true, box_true, diamond_true}
 use Rattle.law.specs.Verdicts.{handles, ClosedLaw, OnlyForced, Negates}
-
--- a successor of a world of a model is a world of the model
-successor_inside : (m : Model) (w x : ℕ) → w < length m.worlds → In x (world m.worlds w).successors → x < length m.worlds
-successor_inside m w x h i = ltb-true x (length m.worlds) (every_in _ i (every_in _ (get_or_in m.worlds w bare h) m.inside))
 
 in_negations : {b : ModalClause} {bs : List ModalClause} → In b bs → In (negation b.name) (negations bs)
 in_negations here = here

@@ -1,3 +1,4 @@
+pub mod Models
 pub mod Built
 pub mod Steps
 pub mod Writing

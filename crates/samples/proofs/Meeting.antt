@@ -1,10 +1,11 @@
 -- Rules that a world of a Kripke model meets have a complete tree, and the root of a complete tree meets the rules.
 use Rattle.std.proofs.Common.{◌≡◌, ℕ, zero, suc, ◌+◌, ◌<◌, ◌≤◌, true, false, List, [], ◌∷◌, length, get_or, sym, refl, ap, ◌∙◌, subst, arith}
-use Rattle.std.proofs.lemmas.Bool.{and_from, ltb-true}
+use Rattle.std.proofs.lemmas.Bool.{and_from}
 use Rattle.lists.specs.Lists.{In, here, there}
 use Rattle.lists.proofs.Members.{every_in, every_from, kept_in, get_or_in}
-use Rattle.modal.specs.Kripke.{Model, bare, meets, world}
+use Rattle.modal.specs.Kripke.{Model, meets, world}
 use Rattle.modal.specs.Rows.{says}
+use Rattle.modal.proofs.Models.{successor_inside}
 use Rattle.modal.specs.declared.row.Row.{Row}
 use Rattle.atoms.specs.Clauses.{Valuation, definitions, makes_all}
 use Rattle.atoms.specs.declared.clauses.Literal.{Literal}
@@ -27,9 +28,6 @@ module _ (st : State) (cl : Clausal st) (m : Model) where
   abbrev reading : ℕ → ℕ → Valuation
   reading l w = at_world st l (λ _. false) m.worlds w
 
-  successor_inside : (w x : ℕ) → w < length m.worlds → In x (world m.worlds w).successors → x < length m.worlds
-  successor_inside w x h i = ltb-true x (length m.worlds) (every_in _ i (every_in _ (get_or_in m.worlds w bare h) m.inside))
-
   defined : (l w : ℕ) → makes_all (reading l w) (definitions (st.entries l)) ≡ true
   defined l w = every_from _ _ (λ e i. definition_true st cl l (λ _. false) m.worlds w e i)
 
@@ -50,7 +48,7 @@ module _ (st : State) (cl : Clausal st) (m : Model) where
   part n l w build h k d i =
       let (j, t) = kept_in (λ (c : ModalClause). reading l w c.name) (st.diamonds l) i in
       let (x, s, q) = diamond_true st cl l (λ _. false) m.worlds w d j t (λ _. false) in
-      build x _ h (successor_inside w x k s) (and_from _ _ q (boxes_obeyed l w x s (fired (reading l w) (st.boxes l)) (λ b z. z)))
+      build x _ h (successor_inside m w x k s) (and_from _ _ q (boxes_obeyed l w x s (fired (reading l w) (st.boxes l)) (λ b z. z)))
 
   tree_at : (n l : ℕ) → Builds n l
   tree_at zero l w xs h k o = (node (reading l w) none, (o, defined l w, ap (fired (reading l w)) (cl.diamonds l ∙ (diamonds_orderly st cl.naming l).last (omega arith))))

@@ -1,15 +1,16 @@
 -- A branch with no more claims on the world itself: it is open exactly if each of its claims on successors is.
-use Rattle.std.proofs.Common.{◌≡◌, ℕ, ◌+◌, ◌<◌, Bool, true, false, cond, not, ◌&&◌, eqb, ltb, List, [], ◌∷◌, ◌++◌, length, sym, refl, ap, ◌∙◌, subst, inl, inr, arith, length-append}
+use Rattle.std.proofs.Common.{◌≡◌, ℕ, ◌+◌, Bool, true, false, cond, not, ◌&&◌, eqb, ltb, List, [], ◌∷◌, ◌++◌, length, sym, refl, ap, ◌∙◌, subst, inl, inr, arith, length-append}
 use Rattle.std.proofs.lemmas.Bool.{and_parts, and_from, cases_Bool, lt-ltb, eq-eqb, eqb-true}
 use Rattle.std.proofs.lemmas.List.{get_or_at}
 use Rattle.lists.specs.Lists.{every, some, In}
-use Rattle.lists.proofs.Members.{every_in, every_from, some_in, some_from, get_or_in, in_either, in_one}
+use Rattle.lists.proofs.Members.{every_in, every_from, some_in, some_from, in_either, in_one}
 use Rattle.modal.specs.Kripke.{World, bare, world}
+use Rattle.modal.proofs.Models.{successor_inside}
 use Rattle.tableau.specs.Branches.{Branch, Open, AllOpen, AnswersAll, Answers, Consistent}
 use Rattle.tableau.specs.Claims.{Signed, holds, opposite}
 use Rattle.tableau.specs.declared.claims.Literal.{Literal}
 use Rattle.tableau.proofs.Unions.{Closed}
-use Rattle.tableau.proofs.Gathering.{Gathered, gathered, closed_model, holds_front}
+use Rattle.tableau.proofs.Gathering.{Gathered, gathered, holds_front}
 
 closed_test : (b : ℕ) (ws : List World) → Closed b ws → every (λ x. every (λ v. ltb v b) x.successors) ws ≡ true
 closed_test b ws h = every_from _ ws (λ x i. every_from _ x.successors (λ v j. lt-ltb v b (h x i v j)))
@@ -71,9 +72,6 @@ module _ (b : Branch) (o : Open b) where
   abbrev successors : List ℕ
   successors = (world o.model.worlds o.number).successors
 
-  successor_inside : (v : ℕ) → In v successors → v < length o.model.worlds
-  successor_inside v i = closed_model o.model (world o.model.worlds o.number) (get_or_in o.model.worlds o.number bare o.inside) v i
-
   reached : (ds : List Signed) → every (λ s. some (holds s o.model.worlds) successors) ds ≡ true → AllOpen b.everywhere ds
   reached [] h = tt
   reached (d ∷ ds) h =
@@ -82,7 +80,7 @@ module _ (b : Branch) (o : Open b) where
         record {
           model = o.model;
           number = v;
-          inside = successor_inside v i;
+          inside = successor_inside o.model o.number v o.inside i;
           fulfils = record {
             claims = and_from _ _ e (every_from _ b.everywhere (λ s j. every_in (holds s o.model.worlds) i (every_in (λ s. every (holds s o.model.worlds) successors) j o.fulfils.everywhere)));
             literals = refl;
