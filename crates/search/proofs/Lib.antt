@@ -1,2 +1,3 @@
 pub mod Clausewise
 pub mod Soundness
+pub mod AllOut

@@ -5,7 +5,7 @@ ghost use Rattle.search.specs.Searches.{Searched, Started, undecided_in};
 use crate::judging::examine;
 use crate::status::Status;
 use atoms::assumptions::Assumptions;
-use atoms::clauses::{Entry, Literal, named};
+use atoms::clauses::{Entry, Literal, all_hold, named};
 use atoms::sets::AtomSet;
 
 // A trial of one literal more: at its end the trail is as it was before.
@@ -58,6 +58,11 @@ pub(crate) fn search(entries: &[Entry], trail: &mut Assumptions) -> Option<AtomS
             let Some(atom) = trail.undecided().lowest() else {
                 return Some(trail.within);
             };
+            // What the trials would come to: under this valuation no entry is false, so none becomes false as one undecided
+            // atom after another is tried out, and none forces an atom in.
+            if all_hold(entries, trail.within) {
+                return Some(trail.within);
+            }
             // A block and no `or_else`: the first trial's guard lets go of the trail before the second begins.
             {
                 let trial = Trial::begin(trail, Literal { atom, holds: false });

@@ -6,6 +6,7 @@ use Rattle.atoms.specs.declared.assumptions.Assumptions.{Assumptions}
 use Rattle.atoms.specs.declared.clauses.Literal.{Literal}
 use Rattle.atoms.specs.declared.sets.AtomSet.{AtomSet}
 use Rattle.search.specs.Searches.{Full, LowestOpen, clash, conflict, follow, full, try_in, try_out}
+use Rattle.search.proofs.AllOut.{out_searched}
 use Rattle.search.proofs.Soundness.{first_forces}
 use Rattle.search.proofs.searching.+search.Goals as goal
 
@@ -40,6 +41,13 @@ returns-in-Forced t c =
       same = search rules;
       order = follow c.in-Forced.literal (c.clashes.ensures.apart c.if-clashes.false)
           c.in-Forced.ensures c.begin-trial.ensures.joined c.search.ensures.order;
+    }
+
+pub returns-then-all_hold : goal.returns-then-all_hold
+returns-then-all_hold t c =
+    record {
+      same = refl;
+      order = out_searched c.args.entries.now c.args.trail.now (c.clashes.ensures.apart c.if-clashes.false) (sym c.all_hold.ensures ∙ c.if-all_hold.true);
     }
 
 pub returns-in_default : goal.returns-in_default
