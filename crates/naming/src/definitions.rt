@@ -1,6 +1,6 @@
 // The definitions that a rule gives.
 ghost use Rattle.naming.specs.Tables.{definitions_at};
-ghost use Rattle.std.specs.Prelude.{◌≡◌};
+ghost use Rattle.std.specs.Prelude.{◌≡◌, ℕ, []};
 
 use crate::counts::NAMES;
 use atoms::clauses::Clause;
@@ -20,6 +20,15 @@ pub struct Definitions {
 }
 
 impl Definitions {
+    // No definitions at any level.
+    pub(crate) fn none() -> Definitions
+        ensures { (l : ℕ) → definitions_at result l ≡ [] }
+    {
+        Definitions {
+            levels: [ArrayVec::new(Clause::NONE); LEVELS],
+        }
+    }
+
     /// The definitions of the level.
     pub fn at(&self, level: Level) -> &[Clause]
         ensures { result.now ≡ definitions_at self.now level }

@@ -1,19 +1,20 @@
 // The table of one level, and taking in a rule level by level.
-ghost use Rattle.std.specs.Prelude.{◌≡◌, ℕ, ◌+◌, ◌<◌, ◌≤◌, ◌++◌, map, length};
+ghost use Rattle.std.specs.Prelude.{◌≡◌, ℕ, ◌+◌, ◌<◌, ◌≤◌, [], ◌++◌, map, length};
 ghost use Rattle.fixed_list.specs.Items.{items_of};
 ghost use Rattle.atoms.specs.Clauses.{clause_from};
 ghost use Rattle.clausal.specs.Clausal.{boxed, diamonded, defines, modals};
 ghost use Rattle.clausal.specs.Counting.{count_of_names};
-ghost use Rattle.naming.specs.Levels.{lists_of, no_lists, lists_at, level_items};
+ghost use Rattle.naming.specs.Levels.{lists_of, no_lists, lists_at};
 ghost use Rattle.naming.specs.Names.{clauses_own, modal_own, lit_in, InRule, ShapeInRule};
+ghost use Rattle.naming.specs.Tables.{definitions_at};
 ghost use Rattle.naming.specs.TakenIn.{TakenAt, TakenIn};
 
 use crate::clauses::{implies, implies_either};
 use crate::counts::NAMES;
-use crate::definitions::LevelClauses;
+use crate::definitions::{Definitions, LevelClauses};
 use crate::names::{FIRST_NAME, Names};
 use crate::reached::ReachedRule;
-use atoms::clauses::{Clause, Literal};
+use atoms::clauses::Literal;
 use atoms::levels::{LEVELS, Level};
 use clausal::modal_clauses::ModalClause;
 use clausal::names::Name;
@@ -128,45 +129,52 @@ impl LevelTable {
         }
     }
 
-    // Takes in a rule at a level, over the names that the level after it then has, and answers the rule's definitions here.
-    fn take_in(&mut self, rule: &ReachedRule, level: Level, further: &Names) -> LevelClauses
+    // Takes in a rule at a level, over the names that the level after it then has, and writes the rule's definitions here.
+    // They are written where they stay: to answer them would move all the room that they may want.
+    fn take_in(
+        &mut self,
+        rule: &ReachedRule,
+        level: Level,
+        further: &Names,
+        definitions: &mut LevelClauses,
+    )
         requires room { length (items_of self.old.names) + count_of_names rule.now.rows.now level ≤ 48 }
         requires boxes { length (items_of self.old.boxes) ≤ length (items_of self.old.names) }
         requires diamonds { length (items_of self.old.diamonds) ≤ length (items_of self.old.names) }
-        ensures { TakenAt rule.now.number rule.now.rows.now level (items_of further.now) (lists_of self.old) (lists_of self.new) (items_of result) }
+        requires none { items_of definitions.old ≡ [] }
+        ensures { TakenAt rule.now.number rule.now.rows.now level (items_of further.now) (lists_of self.old) (lists_of self.new) (items_of definitions.new) }
     {
         let from = self.names.len();
         rule.name_level(level, &mut self.names);
         // a copy, since clauses are written beside the names while these are gone over
         let names = self.names;
-        let mut definitions = ArrayVec::new(Clause::NONE);
         for (i, name) in names.as_slice().iter().enumerate().skip(from) {
             let n = FIRST_NAME + i as u8;
-            self.give(rule, further, n, *name, &mut definitions);
+            self.give(rule, further, n, *name, definitions);
         }
-        definitions
     }
 }
 
-// Takes in a rule, and answers its definitions at each level. It goes from the last level up, since the box and diamond
+// Takes in a rule, and writes its definitions at each level. It goes from the last level up, since the box and diamond
 // clauses of a level are over the names of the level after it; after the last there are none.
 #[tactic(auto, using(crate::proofs::Every::level_read))]
 pub(crate) fn take_in(
     levels: &mut [LevelTable; LEVELS],
     rule: &ReachedRule,
-) -> [LevelClauses; LEVELS]
+    definitions: &mut Definitions,
+)
     requires room { (l : ℕ) → l < 8 → length (lists_at levels.old l).names + count_of_names rule.now.rows.now l ≤ 48 }
     requires boxes { (l : ℕ) → length (lists_at levels.old l).boxes ≤ length (lists_at levels.old l).names }
     requires diamonds { (l : ℕ) → length (lists_at levels.old l).diamonds ≤ length (lists_at levels.old l).names }
-    ensures { TakenIn rule.now.number rule.now.rows.now (lists_at levels.old) (lists_at levels.new) (level_items result) }
+    requires none { (l : ℕ) → definitions_at definitions.old l ≡ [] }
+    ensures { TakenIn rule.now.number rule.now.rows.now (lists_at levels.old) (lists_at levels.new) (definitions_at definitions.new) }
 {
-    let mut definitions = [ArrayVec::new(Clause::NONE); LEVELS];
     let mut further = ArrayVec::new(Name::Free);
     // by index, as it goes backwards: of what is written through `iter_mut` under `rev` no proof knows, and over `Level::ALL`
     // backwards each index would be a level turned into one
     for level in (0..LEVELS).rev() {
-        definitions[level] = levels[level].take_in(rule, Level::ALL[level], &further);
+        let given = &mut definitions.levels[level];
+        levels[level].take_in(rule, Level::ALL[level], &further, given);
         further = levels[level].names;
     }
-    definitions
 }

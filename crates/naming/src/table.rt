@@ -71,11 +71,12 @@ impl Table {
         if let Some(level) = reached.crowded_level(&self.levels) {
             return Err(AddFault::TooManyNames(level.number()));
         }
-        let levels = take_in(&mut self.levels, &reached);
+        let mut definitions = Definitions::none();
+        take_in(&mut self.levels, &reached, &mut definitions);
         self.rules.push(RowList::from(rule)).unwrap();
         Ok(Added {
             number,
-            definitions: Definitions { levels },
+            definitions,
         })
     }
 

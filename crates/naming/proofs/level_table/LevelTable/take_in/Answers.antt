@@ -77,5 +77,5 @@ returns c =
       room = omega (arith, length_items c.loop-i.self.names);
       boxes = rw (e, f) at (whole_end (modal_own boxed further r.number r.rows.now) from (drop from names) _ _ _ c.loop-i.invariant.boxes all);
       diamonds = rw (e, f) at (whole_end (modal_own diamonded further r.number r.rows.now) from (drop from names) _ _ _ c.loop-i.invariant.diamonds all);
-      clauses = rw (c.loop-i.invariant.names) (rw (c.new-definitions.ensures, e, f) at (whole_end (clauses_own names r.number r.rows.now) from (drop from names) _ _ _ c.loop-i.invariant.definitions all));
+      clauses = rw (c.loop-i.invariant.names) (rw (c.requires.none, e, f) at (whole_end (clauses_own names r.number r.rows.now) from (drop from names) _ _ _ c.loop-i.invariant.definitions all));
     }
