@@ -6,6 +6,6 @@ use Rattle.rule_writer.specs.declared.Writer.{Writer}
 abbrev pub bytes_in : Writer → List ℕ
 bytes_in w = vec_items w.bytes
 
--- the number that the next row gets
-abbrev pub rows_in : Writer → ℕ
-rows_in w = w.rows
+-- the number that the next row gets; beyond row 255, which no rule has, numbers do not go up
+abbrev pub next_number : Writer → ℕ
+next_number w = w.rows

@@ -2,10 +2,10 @@
 //! them as often as it is wanted, since a session uses a rule up.
 #![tactic(auto)]
 
-ghost use Rattle.std.specs.Prelude.{◌≡◌, ◌++◌, Ok, Err, IfOk, MatchResult};
+ghost use Rattle.std.specs.Prelude.{◌≡◌, ◌+◌, min, ◌++◌, Ok, Err, IfOk, MatchResult};
 ghost use Rattle.modal.specs.Format.{parsed, bytes_of};
 ghost use Rattle.modal.specs.Rules.{rows_of};
-ghost use Rattle.rule_writer.specs.Writing.{bytes_in, rows_in};
+ghost use Rattle.rule_writer.specs.Writing.{bytes_in, next_number};
 
 use modal::faults::ReadFault;
 use modal::row::Row;
@@ -24,7 +24,8 @@ impl Writer {
     ghost use Rattle.std.specs.Prelude.{[]};
 
     pub fn new(heap: Global) -> Writer
-        ensures { bytes_in result ≡ [] }
+        ensures bytes { bytes_in result ≡ [] }
+        ensures number { next_number result ≡ 0 }
     {
         Writer {
             bytes: Vec::new(heap),
@@ -34,7 +35,8 @@ impl Writer {
 
     /// Appends a row, and answers its number.
     pub fn row(&mut self, row: Row) -> Result<u8, AllocError>
-        ensures number { IfOk result (λ number. number ≡ rows_in self.old) }
+        ensures number { IfOk result (λ number. number ≡ next_number self.old) }
+        ensures next { IfOk result (λ number. next_number self.new ≡ min (number + 1) 255) }
         ensures bytes { IfOk result (λ _. bytes_in self.new ≡ bytes_in self.old ++ bytes_of row) }
     {
         match row {
