@@ -30,9 +30,8 @@ the verdict, and the bytes of each rule.";
 // As many rows as the largest tree has here, and some.
 const ROOM: usize = 2048;
 
-// A session with the rules of the offer, and the question for all of them.
-fn opened<O: Oracle + Drop>(oracle: O, offer: &[Writer]) -> anyhow::Result<(Session<O>, u16)> {
-    let mut session = Session::new(oracle);
+// Adds the rules of the offer to a session without rules, and answers the question for all of them.
+fn add_all<O: Oracle>(session: &mut Session<O>, offer: &[Writer]) -> anyhow::Result<u16> {
     let mut asked = 0;
     for rule in offer {
         let number = session.add(rule.rule()?)?;
@@ -40,13 +39,14 @@ fn opened<O: Oracle + Drop>(oracle: O, offer: &[Writer]) -> anyhow::Result<(Sess
             asked |= 1 << number;
         }
     }
-    Ok((session, asked))
+    Ok(asked)
 }
 
 fn print(rt: &HostRuntime, offer: Offer) -> anyhow::Result<()> {
     let name = offer.name();
     let rules = offer.rules(rt.alloc())?;
-    let (mut session, asked) = opened(Searcher::new(), &rules)?;
+    let mut session = Session::new(Searcher::new());
+    let asked = add_all(&mut session, &rules)?;
     let mut sheet = vec![in rt.alloc(); SheetRow::BLANK; ROOM]?;
     match session.question(asked, &mut sheet) {
         Ok(Verdict::Open(count)) => {
@@ -71,7 +71,8 @@ fn print_all(rt: &HostRuntime) -> anyhow::Result<()> {
 
 // The verdict on the offer in one word.
 fn verdict(offer: &[Writer]) -> anyhow::Result<&'static str> {
-    let (mut session, asked) = opened(Searcher::new(), offer)?;
+    let mut session = Session::new(Searcher::new());
+    let asked = add_all(&mut session, offer)?;
     Ok(match session.question(asked, &mut []) {
         Ok(Verdict::Open(_)) => "open",
         Ok(Verdict::Closed(_)) => "closed",

@@ -1,9 +1,10 @@
 // How long sessions take over the oracle that searches.
+use crate::add_all;
 use crate::counting::Counting;
-use crate::opened;
 use crate::sets::{Set, sets};
 use rule_writer::Writer;
 use search::Searcher;
+use session::session::Session;
 use std::cell::Cell;
 use std::fmt;
 use std::time::Instant;
@@ -43,7 +44,8 @@ impl fmt::Display for Measured {
 
 // Makes a session for the offer and asks so many times.
 fn ask(offer: &[Writer], questions: u32) -> anyhow::Result<()> {
-    let (mut session, asked) = opened(Searcher::new(), offer)?;
+    let mut session = Session::new(Searcher::new());
+    let asked = add_all(&mut session, offer)?;
     for _ in 0..questions {
         // a refusal is an answer too
         let _ = session.question(asked, &mut []);
@@ -71,7 +73,8 @@ fn spent(rt: &HostRuntime, set: &Set, rounds: u32, questions: u32) -> anyhow::Re
 // How often the oracle is asked for a valuation for the first question about the offer.
 fn solves(offer: &[Writer]) -> anyhow::Result<u64> {
     let solves = Cell::new(0);
-    let (mut session, asked) = opened(Counting::new(Searcher::new(), &solves), offer)?;
+    let mut session = Session::new(Counting::new(Searcher::new(), &solves));
+    let asked = add_all(&mut session, offer)?;
     // a refusal is an answer too
     let _ = session.question(asked, &mut []);
     Ok(solves.get())
