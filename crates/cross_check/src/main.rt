@@ -22,7 +22,7 @@ const SETS: u32 = 300;
 
 const SEED: u64 = 1;
 
-/// What the arguments ask for.
+/// What the arguments ask for: to compare, or to list the sets.
 #[derive(Clone, Copy)]
 struct Order {
     list: bool,
@@ -71,6 +71,10 @@ fn list(rt: &HostRuntime, order: Order) -> anyhow::Result<()> {
 }
 
 fn main(rt: HostRuntime) -> anyhow::Result<ExitCode> {
+    if env::args(&rt)?.any(|argument| argument.as_str() == "--help") {
+        println!(rt; "{USAGE}")?;
+        return Ok(ExitCode::SUCCESS);
+    }
     let Some(order) = ordered(&rt)? else {
         eprintln!(rt; "{USAGE}")?;
         return Ok(ExitCode::FAILURE);

@@ -5,8 +5,14 @@
 use page::check::{Checked, check};
 use page::drawing::Drawing;
 use sheet::tree::shown;
+use std::env;
 use std::io::Read;
 use std::process::ExitCode;
+
+const USAGE: &str = "usage: drawing < PAGE
+Says whether the root of a drawn tree meets a rule, both on the page. The first line
+has the bytes of the rule in hexadecimal; each further line is a world: the number of
+its parent, its level, and its letters. # begins a comment.";
 
 fn input(rt: &HostRuntime) -> anyhow::Result<Vec<u8>> {
     let mut text = Vec::new(rt.alloc());
@@ -46,5 +52,16 @@ fn run(rt: &HostRuntime) -> anyhow::Result<ExitCode> {
 }
 
 fn main(rt: HostRuntime) -> anyhow::Result<ExitCode> {
-    run(&rt)
+    let argument = env::args(&rt)?.nth(1);
+    match argument.as_deref() {
+        None => run(&rt),
+        Some("--help") => {
+            println!(rt; "{USAGE}")?;
+            Ok(ExitCode::SUCCESS)
+        }
+        Some(_) => {
+            eprintln!(rt; "{USAGE}")?;
+            Ok(ExitCode::FAILURE)
+        }
+    }
 }

@@ -104,6 +104,7 @@ fn main(rt: HostRuntime) -> anyhow::Result<ExitCode> {
         None => print_all(&rt)?,
         Some("time") => time(&rt)?,
         Some("list") => list(&rt)?,
+        Some("--help") => println!(rt; "{USAGE}")?,
         Some(_) => {
             eprintln!(rt; "{USAGE}")?;
             return Ok(ExitCode::FAILURE);
