@@ -4,9 +4,9 @@
 usage: tools/benchmark.py [RUNS]
 
 Installs Debian's package fact++ where it is not there. A session is measured within one
-program: its rules added and the first question asked. FaCT++ is a program for each offer:
-the best of RUNS runs (10 if not said), less the best run on no rules at all, which is what
-starting it takes."""
+program: its rules added, and the question asked when nothing is learnt and again. FaCT++ is
+run as a program for each offer: the fastest of RUNS runs (10 if not said), less the fastest
+of as many runs on no rules at all, which is what starting it takes."""
 
 import os
 import re
@@ -39,26 +39,36 @@ def listed():
     return sets
 
 
-def best(reasoner, rules, runs):
-    """The seconds of the fastest run, and its answer."""
+def timed(reasoner, rules):
+    """The seconds that FaCT++ takes for the rules as a program, and its answer."""
     reasoner.prepare(rules)
-    least = float("inf")
+    start = time.perf_counter()
+    met = reasoner.ask()
+    return time.perf_counter() - start, met
+
+
+def asked(reasoner, verdict, rules, runs):
+    """The least seconds with the rules, less the least with none, in turn, and those with none."""
+    least = starting = float("inf")
     for _ in range(runs):
-        start = time.perf_counter()
-        met = reasoner.ask()
-        least = min(least, time.perf_counter() - start)
-    return least, met
-
-
-def measured(reasoner, offers, runs, starting):
-    """The microseconds that FaCT++ takes for an offer of the set, less its start."""
-    spent = 0
-    for verdict, rules in offers:
-        seconds, met = best(reasoner, rules, runs)
+        seconds, met = timed(reasoner, rules)
         if verdict != "given-up" and met != (verdict == "open"):
             raise RuntimeError("the verdicts differ: " + " ".join(rule.hex() for rule in rules))
-        spent += max(0, seconds - starting)
-    return spent * 1e6 / len(offers)
+        least = min(least, seconds)
+        starting = min(starting, timed(reasoner, [])[0])
+    return least - starting, starting
+
+
+def measured():
+    """What the program measures, set by set: of three runs the one with the fastest question."""
+    fastest = {}
+    for _ in range(3):
+        for line in printed("time"):
+            name, *numbers = MEASURED.fullmatch(line).groups()
+            numbers = [int(number) for number in numbers]
+            if name not in fastest or numbers[3] < fastest[name][3]:
+                fastest[name] = numbers
+    return fastest
 
 
 def main():
@@ -69,18 +79,21 @@ def main():
     print("| Set | Offers: open, closed, 22 | Adding, µs | First question, µs | Again, µs "
           "| Questions a second | Solves for an offer | A solve, ns | FaCT++, µs | FaCT++ to session |")
     print("|---|---|---|---|---|---|---|---|---|---|")
+    least_start = float("inf")
     with factpp.Reasoner() as reasoner:
-        starting, _ = best(reasoner, [], 10 * runs)
-        for line in printed("time"):
-            name, *numbers = MEASURED.fullmatch(line).groups()
-            offers, solves, adding, first, further, questions, solve = map(int, numbers)
+        for name, (offers, solves, adding, first, further, questions, solve) in measured().items():
             verdicts = [verdict for verdict, _ in sets[name]]
             counts = ", ".join(str(verdicts.count(v)) for v in ("open", "closed", "given-up"))
-            other = measured(reasoner, sets[name], runs, starting)
-            print(f"| {name} | {counts} | {adding / 1e3:.1f} | {first / 1e3:.1f} | {further / 1e3:.1f} "
+            spent = 0
+            for verdict, rules in sets[name]:
+                seconds, starting = asked(reasoner, verdict, rules, runs)
+                spent += seconds
+                least_start = min(least_start, starting)
+            other = max(0, spent * 1e6 / offers)
+            print(f"| {name} | {counts} | {adding / 1e3:.1f} | {first / 1e3:.2f} | {further / 1e3:.2f} "
                   f"| {questions} | {solves / offers:.1f} | {solve} | {other:.0f} "
-                  f"| {other * 1e3 / (adding + first):.1f} |")
-    print(f"starting FaCT++: {starting * 1e6:.0f} µs, which is not counted")
+                  f"| {other * 1e3 / (adding + first):.2g} |")
+    print(f"starting FaCT++: {least_start * 1e6:.0f} µs, which is not counted")
 
 
 if __name__ == "__main__":

@@ -9,10 +9,11 @@ use std::cell::Cell;
 use std::fmt;
 use std::time::Instant;
 
-// How many sessions are made for each set, so that there is something to measure.
-const SESSIONS: u32 = 2_000;
+// How often each thing is done for a set, so that there is something to measure.
+const TIMES: u32 = 2_000;
 
-/// What was seen of a set: the solves of one session for each offer, and nanoseconds for each of many sessions.
+/// What was seen of a set: the solves for one question about each offer, and nanoseconds: to make a session with its
+/// rules, to ask when nothing is learnt, and to ask again.
 #[derive(Clone, Copy)]
 struct Measured {
     offers: usize,
@@ -42,32 +43,72 @@ impl fmt::Display for Measured {
     }
 }
 
-// Makes a session for the offer and asks so many times.
-fn ask(offer: &[Writer], questions: u32) -> anyhow::Result<()> {
-    let mut session = Session::new(Searcher::new());
-    let asked = add_all(&mut session, offer)?;
-    for _ in 0..questions {
+/// What is done again and again with a session that has the rules of an offer.
+#[derive(Clone, Copy)]
+enum Work {
+    Forget,
+    /// Nothing is learnt when the question is asked.
+    ForgetAndAsk,
+    Ask,
+}
+
+impl Work {
+    fn once(self, session: &mut Session<Searcher>, asked: u16) {
         // a refusal is an answer too
+        match self {
+            Work::Forget => session.forget(),
+            Work::ForgetAndAsk => {
+                session.forget();
+                let _ = session.question(asked, &mut []);
+            }
+            Work::Ask => {
+                let _ = session.question(asked, &mut []);
+            }
+        }
+    }
+
+    // The nanoseconds for so many times on a session with the offer.
+    fn spent(self, rt: &HostRuntime, offer: &[Writer], times: u32) -> anyhow::Result<u128> {
+        let mut session = Session::new(Searcher::new());
+        let asked = add_all(&mut session, offer)?;
         let _ = session.question(asked, &mut []);
+        let start = Instant::now(rt)?;
+        for _ in 0..times {
+            self.once(&mut session, asked);
+        }
+        Ok(start.elapsed(rt)?.as_nanos())
     }
-    Ok(())
+
+    // The nanoseconds for each time, over all offers of the set.
+    fn each(self, rt: &HostRuntime, set: &Set, times: u32) -> anyhow::Result<u128> {
+        let mut all = 0_u128;
+        for offer in &set.offers {
+            all = all.saturating_add(self.spent(rt, offer, times)?);
+        }
+        Ok(all / done(set, times).max(1))
+    }
 }
 
-fn ask_all(set: &Set, questions: u32) -> anyhow::Result<()> {
+// How often something is done in all, if so many times for each offer.
+fn done(set: &Set, times: u32) -> u128 {
+    u128::from(times).saturating_mul(set.offers.len() as u128)
+}
+
+fn add_each(set: &Set) -> anyhow::Result<()> {
     for offer in &set.offers {
-        ask(offer, questions)?;
+        let mut session = Session::new(Searcher::new());
+        let _ = add_all(&mut session, offer)?;
     }
     Ok(())
 }
 
-// The nanoseconds for each session that is made and asked so many times.
-fn spent(rt: &HostRuntime, set: &Set, rounds: u32, questions: u32) -> anyhow::Result<u128> {
+// The nanoseconds for each session that is made and given its rules.
+fn adding(rt: &HostRuntime, set: &Set, times: u32) -> anyhow::Result<u128> {
     let start = Instant::now(rt)?;
-    for _ in 0..rounds {
-        ask_all(set, questions)?;
+    for _ in 0..times {
+        add_each(set)?;
     }
-    let sessions = u128::from(rounds).saturating_mul(set.offers.len() as u128);
-    Ok(start.elapsed(rt)?.as_nanos() / sessions.max(1))
+    Ok(start.elapsed(rt)?.as_nanos() / done(set, times).max(1))
 }
 
 // How often the oracle is asked for a valuation for the first question about the offer.
@@ -89,16 +130,15 @@ fn solves_of_all(set: &Set) -> anyhow::Result<u64> {
 }
 
 fn measure(rt: &HostRuntime, set: &Set) -> anyhow::Result<Measured> {
-    let rounds = SESSIONS / u32::try_from(set.offers.len()).unwrap_or(1).max(1);
-    let adding = spent(rt, set, rounds, 0)?;
-    let once = spent(rt, set, rounds, 1)?;
-    let twice = spent(rt, set, rounds, 2)?;
+    let times = TIMES / u32::try_from(set.offers.len()).unwrap_or(1).max(1);
+    let forgetting = Work::Forget.each(rt, set, times)?;
+    let asking = Work::ForgetAndAsk.each(rt, set, times)?;
     Ok(Measured {
         offers: set.offers.len(),
         solves: solves_of_all(set)?,
-        adding,
-        first: once.saturating_sub(adding),
-        further: twice.saturating_sub(once),
+        adding: adding(rt, set, times)?,
+        first: asking.saturating_sub(forgetting),
+        further: Work::Ask.each(rt, set, times)?,
     })
 }
 
