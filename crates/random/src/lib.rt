@@ -2,8 +2,9 @@
 #![tactic(auto)]
 
 ghost use Rattle.std.specs.Prelude.{◌<◌};
+ghost use Rattle.random.specs.States.{state_of};
 
-// Half of its bits are set.
+// Half of its bits are set, so that small seeds begin far apart from 0.
 const FAR: u64 = 0x9e37_79b9_7f4a_7c15;
 
 /// A generator of random numbers (xorshift).
@@ -13,8 +14,10 @@ pub struct Random {
 }
 
 impl Random {
-    pub fn new(seed: u64) -> Random {
-        // far from 0 for a small seed, and never 0, which would stay 0
+    /// The generator of a seed. Its state is never 0, from which no other number comes.
+    pub fn new(seed: u64) -> Random
+        ensures { 0 < state_of result }
+    {
         Random {
             state: seed.wrapping_add(FAR).max(1),
         }
@@ -35,6 +38,7 @@ impl Random {
         self.number().checked_rem(u64::from(bound)).unwrap_or(0) as u8
     }
 
+    /// Either answer, as often as the other: nothing is promised of one.
     pub fn coin(&mut self) -> bool {
         self.below(2) == 0
     }

@@ -3,6 +3,8 @@
 //! met and some cannot.
 #![tactic(auto)]
 
+ghost use Rattle.std.specs.Prelude.{◌≡◌, length, IfOk};
+
 use modal::row::Row;
 use random::Random;
 use rule_writer::Writer;
@@ -88,7 +90,9 @@ pub fn draw_all(
     shape: Shape,
     count: u8,
     heap: Global,
-) -> Result<Vec<Writer>, AllocError> {
+) -> Result<Vec<Writer>, AllocError>
+    ensures { IfOk result (λ rules. length rules.items ≡ count) }
+{
     let mut rules = Vec::new(heap);
     for _ in 0..count {
         rules.push(draw(random, shape, heap)?)?;
