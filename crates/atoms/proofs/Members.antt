@@ -1,10 +1,9 @@
 -- Membership in a set of atoms, by the digits of the number that writes it.
 use Rattle.std.proofs.Common.{◌≡◌, ℕ, zero, suc, ◌-◌, ◌*◌, ◌/◌, ◌%◌, ◌^◌, ◌<◌, ◌≤◌, Bool, true, false, cond, not, ◌&&◌, ◌||◌, eqb, ltb, sym, refl, ap, ◌∙◌, div-one, arith, lit<, pow_pos}
 use native.Mathlib.Nat.{div-div-eq-div-mul, pow-succ', zero-div}
-use lib.Bits.{bit_and, bit_or, and_shr, or_shr, and_step, or_step, and_mask, or_lt}
-use lib.Count.{count_trailing_zeros, under}
+use lib.Bits.{bit_and, bit_or, and_shr, or_shr, and_step, or_step, and_mask}
 use Rattle.std.proofs.lemmas.Nat.{one_shl, pow_below}
-use Rattle.std.proofs.lemmas.Bool.{true≢false, ltb-true, ltb-false, lt-ltb, eqb-true, eq-eqb}
+use Rattle.std.proofs.lemmas.Bool.{lt-ltb, eqb-true, eq-eqb}
 use Rattle.std.proofs.lemmas.Bool.Decides.{nat_tests}
 use Rattle.atoms.specs.Bits.{bit}
 
@@ -93,40 +92,18 @@ empty_test n b l t e i = ap (λ (m : ℕ). bit m i) (eqb-true n 0 (sym t ∙ e))
 pub empty_tested : (n : ℕ) (b : Bool) → n < 2 ^ 64 → b ≡ eqb n 0 → ((i : ℕ) → bit n i ≡ false) → b ≡ true
 empty_tested n b l t e = t ∙ eq-eqb n 0 (has_nothing 64 n l e)
 
--- a set that a test for no members finds not empty is not 0
-pub not_zero : (n : ℕ) (b : Bool) → (((i : ℕ) → bit n i ≡ false) → b ≡ true) → b ≡ false → 0 < n
-not_zero zero b h e = absurd (true≢false (sym (h has_none) ∙ e))
-not_zero (suc n) b h e = omega arith
-
-pub record Lowest (k n a : ℕ) : Type 0 where
-  pub within : a < k
-  pub member : bit n a ≡ true
-  pub first : (i : ℕ) → i < a → bit n i ≡ false
-
-low_at : (k n d : ℕ) → n % 2 ≡ d → 0 < n → n < 2 ^ suc k → ((m : ℕ) → 0 < m → m < 2 ^ k → Lowest k m (count_trailing_zeros k m)) → Lowest (suc k) n (under d (count_trailing_zeros k (n / 2)))
-low_at k n zero e pos h below =
-    let p = pow-succ' 2 k in
-    let b = below (n / 2) (omega arith) (omega arith) in
-    let w = b.within in
-    let first : (i : ℕ) → i < suc (count_trailing_zeros k (n / 2)) → bit n i ≡ false = low_first n (count_trailing_zeros k (n / 2)) e b.first in
-    record { within = omega arith; member = has_suc n (count_trailing_zeros k (n / 2)) ∙ b.member; first = first }
+-- a set with an atom more, by membership
+pub has_insert : (n a i : ℕ) → bit (cond (ltb a 64) (bit_or n (2 ^ a)) n) i ≡ bit n i || (eqb a i && ltb i 64)
+has_insert n a i = at (ltb a 64) refl
   where
-    low_first : (n t : ℕ) → n % 2 ≡ 0 → ((i : ℕ) → i < t → bit (n / 2) i ≡ false) → (i : ℕ) → i < suc t → bit n i ≡ false
-    low_first n t e f zero l = has_zero n ∙ grind (arith, nat_tests)
-    low_first n t e f (suc i) l = has_suc n i ∙ f i (omega arith)
-low_at k n (suc d) e pos h below =
-    record { within = omega arith; member = has_zero n ∙ grind (arith, nat_tests); first = λ i l. absurd (let z : ⊥ = omega arith in z) }
+    at : (b : Bool) → ltb a 64 ≡ b → bit (cond b (bit_or n (2 ^ a)) n) i ≡ bit n i || (eqb a i && ltb i 64)
+    at true e = grind (arith, nat_tests, has_or n (2 ^ a) i, has_one a i)
+    at false e = grind (arith, nat_tests)
 
-pub has_lowest : (k n : ℕ) → 0 < n → n < 2 ^ k → Lowest k n (count_trailing_zeros k n)
-unfolding count_trailing_zeros
-has_lowest zero n pos h = absurd (let z : ⊥ = omega arith in z)
-has_lowest (suc k) n pos h = low_at k n (n % 2) refl pos h (has_lowest k)
+pub has_with : (n a i : ℕ) → a < 64 → bit (cond (ltb a 64) (bit_or n (2 ^ a)) n) i ≡ bit n i || eqb a i
+has_with n a i l = rw (lt-ltb a 64 l) (has_or n (2 ^ a) i ∙ ap (λ (b : Bool). bit n i || b) (has_one a i))
 
--- what the code computes for an atom more, and for one less
-pub has_insert : (n a i : ℕ) → a < 64 → bit (bit_or n ((1 * 2 ^ a) % 2 ^ 64)) i ≡ bit n i || eqb a i
-has_insert n a i h =
-    ap (λ (m : ℕ). bit (bit_or n m) i) (one_shl a 64 h) ∙ has_or n (2 ^ a) i ∙ ap (λ (b : Bool). bit n i || b) (has_one a i)
-
+-- what the code computes for an atom less
 trim : (b : Bool) (i : ℕ) (d : Bool) → (64 ≤ i → b ≡ false) → b && (ltb i 64 && not d) ≡ b && not d
 trim false i d h = refl
 trim true i d h = grind (arith, nat_tests, h)
@@ -148,30 +125,4 @@ has_minus a b i la lb =
 
 -- the letters
 pub has_letters : (i : ℕ) → bit 32767 i ≡ ltb i 15
-has_letters i = has_others 15 0 i (lit< tt) ∙ ap (λ (b : Bool). ltb i 15 && not b) (has_none i) ∙ yes_and (ltb i 15)
-  where
-    yes_and : (b : Bool) → b && not false ≡ b
-    yes_and true = refl
-    yes_and false = refl
-
--- the number that a set with an atom more is written as
-pub insert_is : (n m a : ℕ) → n < 2 ^ 64 → m < 2 ^ 64 → ((i : ℕ) → bit m i ≡ bit n i || (eqb a i && ltb i 64)) → m ≡ cond (ltb a 64) (bit_or n (2 ^ a)) n
-insert_is n m a hn hm e = at (ltb a 64) refl
-  where
-    in_set : (b : Bool) (i : ℕ) → a < 64 → b || (eqb a i && ltb i 64) ≡ b || eqb a i
-    in_set true i l = refl
-    in_set false i l = grind (arith, nat_tests)
-
-    no_atom : (b : Bool) (i : ℕ) → 64 ≤ a → b || (eqb a i && ltb i 64) ≡ b
-    no_atom true i l = refl
-    no_atom false i l = grind (arith, nat_tests)
-
-    at : (b : Bool) → ltb a 64 ≡ b → m ≡ cond b (bit_or n (2 ^ a)) n
-    at true q =
-        let l : a < 64 = ltb-true a 64 q in
-        has_same 64 m (bit_or n (2 ^ a)) hm (or_lt 64 n (2 ^ a) hn (pow_below a 64 l)) (λ i. e i ∙ in_set (bit n i) i l ∙ sym (has_or n (2 ^ a) i ∙ ap (λ (b : Bool). bit n i || b) (has_one a i)))
-    at false q = let l : 64 ≤ a = ltb-false a 64 q in has_same 64 m n hm hn (λ i. e i ∙ no_atom (bit n i) i l)
-
--- a set with one atom more, by membership
-pub has_with : (n a i : ℕ) → a < 64 → bit (cond (ltb a 64) (bit_or n (2 ^ a)) n) i ≡ bit n i || eqb a i
-has_with n a i l = rw (lt-ltb a 64 l) (has_or n (2 ^ a) i ∙ ap (λ (b : Bool). bit n i || b) (has_one a i))
+has_letters i = grind (arith, nat_tests, has_others 15 0 i (lit< tt), has_none i)

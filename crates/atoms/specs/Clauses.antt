@@ -1,16 +1,22 @@
 -- Literals, clauses and lists of entries under a valuation.
-use Rattle.std.specs.Prelude.{ℕ, ◌^◌, Bool, true, false, cond, not, ◌&&◌, ◌||◌, List, [], ◌∷◌, filter, bit_or, nat_lt}
+use Rattle.std.specs.Prelude.{ℕ, Bool, true, false, cond, not, ◌&&◌, ◌||◌, List, [], ◌∷◌, filter}
 use Rattle.lists.specs.Lists.{every, some}
-use Rattle.atoms.specs.Sets.{has, some_below}
+use Rattle.atoms.specs.Sets.{has, some_below, with_atom}
 use Rattle.atoms.specs.declared.clauses.Clause.{Clause}
 use Rattle.atoms.specs.declared.clauses.Entry.{Entry}
 use Rattle.atoms.specs.declared.clauses.Literal.{Literal}
 use Rattle.atoms.specs.declared.clauses.Mark.TheVariants.{Definition, Learnt}
-use Rattle.atoms.specs.declared.sets.AtomSet.{AtomSet}
 
 -- a valuation, by which atoms are in
 abbrev pub Valuation : Type 0
 Valuation = ℕ → Bool
+
+-- the literal that the atom is in, and its negation
+abbrev pub positive : ℕ → Literal
+positive a = record { atom = a; holds = true }
+
+abbrev pub negation : ℕ → Literal
+negation a = record { atom = a; holds = false }
 
 -- does the valuation make the literal true
 abbrev pub obeys_one : Valuation → Literal → Bool
@@ -48,10 +54,6 @@ learnt = filter is_learnt
 
 abbrev pub definitions : List Entry → List Entry
 definitions = filter is_definition
-
--- the set with one atom more, if the number is an atom
-abbrev pub with_atom : AtomSet → ℕ → AtomSet
-with_atom s a = record { bits = cond (nat_lt a 64) (bit_or s.bits (2 ^ a)) s.bits }
 
 -- the clause with one literal more
 abbrev pub with_literal : Clause → Literal → Clause

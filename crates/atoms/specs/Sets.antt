@@ -1,11 +1,15 @@
 -- Membership in a set of atoms, and tests and counts over the numbers below a bound.
-use Rattle.std.specs.Prelude.{◌≡◌, ℕ, zero, suc, ◌+◌, ◌^◌, ◌<◌, Bool, true, false, cond, not, ◌&&◌, ◌||◌, bit_or, nat_le}
+use Rattle.std.specs.Prelude.{◌≡◌, ℕ, zero, suc, ◌+◌, ◌^◌, ◌<◌, Bool, true, false, cond, not, ◌&&◌, ◌||◌, bit_or, nat_le, nat_lt}
 use Rattle.atoms.specs.Bits.{bit}
 use Rattle.atoms.specs.declared.sets.AtomSet.{AtomSet}
 
 -- is the atom in the set
 abbrev pub has : AtomSet → ℕ → Bool
 has s a = bit s.bits a
+
+-- the set with one atom more, if the number is an atom
+abbrev pub with_atom : AtomSet → ℕ → AtomSet
+with_atom s a = record { bits = cond (nat_lt a 64) (bit_or s.bits (2 ^ a)) s.bits }
 
 -- does the test hold of a number below the bound
 unfoldable pub some_below : ℕ → (ℕ → Bool) → Bool

@@ -1,8 +1,8 @@
 ghost use Rattle.std.specs.Prelude.{◌≡◌, ℕ, false, not, ◌&&◌, nat_lt};
-ghost use Rattle.atoms.specs.Assuming.{clashing, settled, Joined};
+ghost use Rattle.atoms.specs.Assuming.{assumes, clashing, Apart, settled, is_free, Joined, Dropped};
 ghost use Rattle.atoms.specs.Sets.{has};
 
-use crate::clauses::Literal;
+use crate::clauses::{Entry, Literal, named};
 use crate::sets::AtomSet;
 
 /// A set of literals that a valuation is to obey: the atoms that must be in, and those that must be out.
@@ -23,7 +23,7 @@ impl Assumptions {
     /// Whether an atom must be both in and out.
     pub fn clashes(self) -> bool
         ensures answer { result ≡ clashing self }
-        ensures apart { result ≡ false → (i : ℕ) → has self.within i && has self.without i ≡ false }
+        ensures apart { result ≡ false → Apart self }
     {
         !self.within.intersection(self.without).is_empty()
     }
@@ -35,11 +35,55 @@ impl Assumptions {
         self.within.union(self.without).complement()
     }
 
+    /// The atoms that the entries name and on which nothing is assumed.
+    pub fn free(self, entries: &[Entry]) -> AtomSet
+        ensures { (i : ℕ) → has result i ≡ is_free entries.now self i }
+    {
+        named(entries).intersection(self.undecided())
+    }
+
+    /// Whether the literal is among them.
+    pub fn contains(self, literal: Literal) -> bool
+        ensures { result ≡ assumes self literal }
+    {
+        if literal.holds {
+            self.within.member(literal.atom)
+        } else {
+            self.without.member(literal.atom)
+        }
+    }
+
+    /// All but the literal.
+    pub fn remove(self, literal: Literal) -> Assumptions
+        ensures { Dropped self literal result }
+    {
+        if literal.holds {
+            Assumptions {
+                within: self.within.remove(literal.atom),
+                ..self
+            }
+        } else {
+            Assumptions {
+                without: self.without.remove(literal.atom),
+                ..self
+            }
+        }
+    }
+
     /// One literal more. A number that is no atom adds nothing.
     pub fn with(self, literal: Literal) -> Assumptions
         ensures { Joined self literal result }
     {
-        let (within, without) = literal.put(self.within, self.without);
-        Assumptions { within, without }
+        if literal.holds {
+            Assumptions {
+                within: self.within.insert(literal.atom),
+                ..self
+            }
+        } else {
+            Assumptions {
+                without: self.without.insert(literal.atom),
+                ..self
+            }
+        }
     }
 }

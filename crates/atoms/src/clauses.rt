@@ -1,5 +1,5 @@
-ghost use Rattle.std.specs.Prelude.{◌≡◌, ℕ, if◌then◌else◌, not, ◌&&◌, ◌||◌, ◌==◌, nat_lt};
-ghost use Rattle.atoms.specs.Clauses.{makes, makes_all, names, has_atom, with_atom, with_literal};
+ghost use Rattle.std.specs.Prelude.{◌≡◌, ℕ};
+ghost use Rattle.atoms.specs.Clauses.{positive, negation, makes, makes_all, names, has_atom, with_literal};
 ghost use Rattle.atoms.specs.Sets.{has};
 
 use crate::sets::AtomSet;
@@ -32,18 +32,18 @@ pub struct Entry {
 }
 
 impl Literal {
-    // The sets of the plain and of the negated atoms of some literals, with this one among them.
-    pub(crate) fn put(self, plain: AtomSet, negated: AtomSet) -> (AtomSet, AtomSet)
-        ensures plain { result.0 ≡ (if self.holds then with_atom plain self.atom else plain) }
-        ensures negated { result.1 ≡ (if self.holds then negated else with_atom negated self.atom) }
-        ensures ins { (i : ℕ) → has result.0 i ≡ has plain i || (self.holds && (self.atom == i && nat_lt i 64)) }
-        ensures outs { (i : ℕ) → has result.1 i ≡ has negated i || (not self.holds && (self.atom == i && nat_lt i 64)) }
+    /// The atom is in.
+    pub fn positive(atom: u8) -> Literal
+        ensures { result ≡ positive atom }
     {
-        if self.holds {
-            (plain.insert(self.atom), negated)
-        } else {
-            (plain, negated.insert(self.atom))
-        }
+        Literal { atom, holds: true }
+    }
+
+    /// The atom is out.
+    pub fn negation(atom: u8) -> Literal
+        ensures { result ≡ negation atom }
+    {
+        Literal { atom, holds: false }
     }
 }
 
@@ -58,8 +58,17 @@ impl Clause {
     pub fn with(self, literal: Literal) -> Clause
         ensures { result ≡ with_literal self literal }
     {
-        let (plain, negated) = literal.put(self.plain, self.negated);
-        Clause { plain, negated }
+        if literal.holds {
+            Clause {
+                plain: self.plain.insert(literal.atom),
+                ..self
+            }
+        } else {
+            Clause {
+                negated: self.negated.insert(literal.atom),
+                ..self
+            }
+        }
     }
 
     /// Whether the valuation makes one of the literals true.
@@ -71,8 +80,8 @@ impl Clause {
         !plain.union(negated).is_empty()
     }
 
-    /// The atoms that the clause names.
-    pub fn atoms(self) -> AtomSet
+    // The atoms that the clause names.
+    pub(crate) fn atoms(self) -> AtomSet
         ensures { (i : ℕ) → has result i ≡ has_atom self i }
     {
         self.plain.union(self.negated)

@@ -1,9 +1,12 @@
 ghost use Rattle.std.specs.Prelude.{◌≡◌, ℕ, ◌+◌, true, false, not, ◌&&◌, ◌||◌, MatchOption, ◌==◌, nat_lt};
 ghost use Rattle.atoms.specs.Bits.{bit};
-ghost use Rattle.atoms.specs.Sets.{has, count_below, has_only_letters, LowestIn};
+ghost use Rattle.atoms.specs.Sets.{has, with_atom, count_below, has_only_letters, LowestIn};
 
 /// How many atoms a level has: 0 to 63.
 pub const ATOMS: u8 = 64;
+
+/// The atom that is always true.
+pub const TRUE_ATOM: u8 = 15;
 
 /// A set of atoms, atom `a` as bit `a`.
 #[derive(Clone, Copy, PartialEq, Eq, Debug)]
@@ -36,7 +39,8 @@ impl AtomSet {
 
     /// The set with the atom `a`. A number that is no atom adds nothing.
     pub fn insert(self, a: u8) -> AtomSet
-        ensures { (i : ℕ) → has result i ≡ has self i || (a == i && nat_lt i 64) }
+        ensures word { result ≡ with_atom self a }
+        ensures atoms { (i : ℕ) → has result i ≡ has self i || (a == i && nat_lt i 64) }
     {
         if a < ATOMS {
             AtomSet {

@@ -1,18 +1,18 @@
 -- The places that are counted are the places that are reached, each once.
 use Rattle.std.proofs.lemmas.Grind.{common_steps}
 use Rattle.std.proofs.lemmas.Bool.Decides.{nat_tests}
-use Rattle.std.proofs.Common.{◌≡◌, ℕ, zero, suc, ◌-◌, ◌<◌, ◌≤◌, Bool, true, false, cond, eqb, ◌⊎◌, List, [], ◌∷◌, length, get_or, sym, refl, subst, inl, inr, arith}
+use Rattle.std.proofs.Common.{◌≡◌, ℕ, zero, suc, ◌<◌, ◌≤◌, Bool, true, false, cond, eqb, ◌⊎◌, List, [], ◌∷◌, length, get_or, sym, refl, subst, inl, inr, arith}
 use Rattle.std.proofs.lemmas.Bool.{and_parts, eqb-true, eq-eqb, cases_lt, cases_eq, both_ways}
 use Rattle.std.proofs.lemmas.List.{get_or_past}
 use Rattle.clausal.proofs.Reading.{same_sign}
-use Rattle.clausal.proofs.Rows.{Lawful, RowOk}
+use Rattle.clausal.proofs.Rows.{Lawful, RowOk, lead_ok}
 use Rattle.clausal.specs.Counting.{joined_by, places_of, place_eq, spread, walk}
-use Rattle.clausal.specs.Places.{Reached, last, leads, next}
+use Rattle.clausal.specs.Places.{Reached, last, next, last_of, leads_of}
 use Rattle.clausal.specs.declared.places.Place.{Place}
 use Rattle.lists.proofs.Members.{some_from, some_in}
 use Rattle.lists.specs.Lists.{In, Once, here, some, there}
 use Rattle.modal.specs.declared.row.Row.{Row}
-use Rattle.modal.specs.declared.row.Row.TheVariants.{And, Box, Diamond, False, Letter, Not, Or, True}
+use Rattle.modal.specs.declared.row.Row.TheVariants.{False}
 
 pub same_place : (p q : Place) → place_eq p q ≡ true → p ≡ q
 same_place p q h =
@@ -59,39 +59,36 @@ join_once [] ps o = o
 join_once (q ∷ qs) ps o = join_once qs _ (put_once q ps _ refl o)
 
 module _ (rows : List Row) where
-  abbrev leads_of : Place → List Place
-  leads_of p = leads (get_or rows p.row False) p.plus p.level
-
   module _ (k : ℕ) where
     spread_keeps : (qs ps : List Place) {p : Place} → In p ps → In p (spread rows k qs ps)
     spread_keeps [] ps i = i
     spread_keeps (q ∷ qs) ps {p} i = spread_keeps qs _ (go (eqb q.row k))
       where
-        go : (b : Bool) → In p (cond b (joined_by (leads_of q) ps) ps)
-        go true = join_right (leads_of q) ps i
+        go : (b : Bool) → In p (cond b (joined_by (leads_of rows q) ps) ps)
+        go true = join_right (leads_of rows q) ps i
         go false = i
 
-    spread_leads : {q : Place} {qs : List Place} (ps : List Place) {p : Place} → In q qs → q.row ≡ k → In p (leads_of q) → In p (spread rows k qs ps)
-    spread_leads {q} ps {p} (here {xs = qs}) e i = spread_keeps qs _ (subst (λ b. In p (cond b (joined_by (leads_of q) ps) ps)) (sym (eq-eqb q.row k e)) (join_left ps i))
+    spread_leads : {q : Place} {qs : List Place} (ps : List Place) {p : Place} → In q qs → q.row ≡ k → In p (leads_of rows q) → In p (spread rows k qs ps)
+    spread_leads {q} ps {p} (here {xs = qs}) e i = spread_keeps qs _ (subst (λ b. In p (cond b (joined_by (leads_of rows q) ps) ps)) (sym (eq-eqb q.row k e)) (join_left ps i))
     spread_leads ps (there j) e i = spread_leads _ j e i
 
-    spread_from : (qs ps : List Place) {p : Place} → In p (spread rows k qs ps) → In p ps ⊎ ((q : Place) × In q qs × (q.row ≡ k) × In p (leads_of q))
+    spread_from : (qs ps : List Place) {p : Place} → In p (spread rows k qs ps) → In p ps ⊎ ((q : Place) × In q qs × (q.row ≡ k) × In p (leads_of rows q))
     spread_from [] ps i = inl i
     spread_from (q ∷ qs) ps {p} i = elim (spread_from qs _ i) [
       | inl j ↦ go (eqb q.row k) refl j
       | inr (x, y, e, z) ↦ inr (x, there y, e, z)
     ]
       where
-        go : (b : Bool) → eqb q.row k ≡ b → In p (cond b (joined_by (leads_of q) ps) ps) → In p ps ⊎ ((x : Place) × In x (q ∷ qs) × (x.row ≡ k) × In p (leads_of x))
-        go true e j = elim (join_from (leads_of q) ps j) [ inl l ↦ inr (q, here, eqb-true q.row k e, l) | inr l ↦ inl l ]
+        go : (b : Bool) → eqb q.row k ≡ b → In p (cond b (joined_by (leads_of rows q) ps) ps) → In p ps ⊎ ((x : Place) × In x (q ∷ qs) × (x.row ≡ k) × In p (leads_of rows x))
+        go true e j = elim (join_from (leads_of rows q) ps j) [ inl l ↦ inr (q, here, eqb-true q.row k e, l) | inr l ↦ inl l ]
         go false e j = inl j
 
     spread_once : (qs ps : List Place) → Once ps → Once (spread rows k qs ps)
     spread_once [] ps o = o
     spread_once (q ∷ qs) ps o = spread_once qs _ (go (eqb q.row k))
       where
-        go : (b : Bool) → Once (cond b (joined_by (leads_of q) ps) ps)
-        go true = join_once (leads_of q) ps o
+        go : (b : Bool) → Once (cond b (joined_by (leads_of rows q) ps) ps)
+        go true = join_once (leads_of rows q) ps o
         go false = o
 
   walk_keeps : (k : ℕ) (ps : List Place) {p : Place} → In p ps → In p (walk rows k ps)
@@ -107,30 +104,15 @@ module _ (rows : List Row) where
   walk_reached (suc k) ps h i = walk_reached k (spread rows k ps ps) (λ p j. elim (spread_from k ps ps j) [ inl x ↦ h p x | inr (q, x, e, y) ↦ next (h q x) y ]) i
 
   module _ (ok : Lawful rows) where
-    -- a place leads to earlier rows only
-    leads_earlier : (q : Place) {p : Place} → In p (leads_of q) → p.row < q.row
-    leads_earlier q i = elim (cases_lt q.row (length rows)) [ inl h ↦ go (get_or rows q.row False) (ok.ordered q.row h) i | inr h ↦ go (get_or rows q.row False) (subst (RowOk q.row) (sym (get_or_past rows q.row False h)) tt) i ]
+    leads_earlier : (q : Place) {p : Place} → In p (leads_of rows q) → p.row < q.row
+    leads_earlier q i = (lead_ok rows q.row (get_or rows q.row False) q.plus q.level ordered i).0
       where
-        go : (r : Row) {p : Place} → RowOk q.row r → In p (leads r q.plus q.level) → p.row < q.row
-        go False o i = elim i [ ]
-        go True o i = elim i [ ]
-        go (Letter a) o i = elim i [ ]
-        go (Not c) o here = o
-        go (Not c) o (there i) = elim i [ ]
-        go (And c e) o here = o.0
-        go (And c e) o (there here) = o.1
-        go (And c e) o (there (there i)) = elim i [ ]
-        go (Or c e) o here = o.0
-        go (Or c e) o (there here) = o.1
-        go (Or c e) o (there (there i)) = elim i [ ]
-        go (Box c) o here = o
-        go (Box c) o (there i) = elim i [ ]
-        go (Diamond c) o here = o
-        go (Diamond c) o (there i) = elim i [ ]
+        ordered : RowOk q.row (get_or rows q.row False)
+        ordered = elim (cases_lt q.row (length rows)) [ inl h ↦ ok.ordered q.row h | inr h ↦ subst (RowOk q.row) (sym (get_or_past rows q.row False h)) tt ]
 
     -- the places of the rows from k on have what they lead to in the list
     abbrev Closed : ℕ → List Place → Type 0
-    Closed k ps = (q p : Place) → In q ps → k ≤ q.row → In p (leads_of q) → In p ps
+    Closed k ps = (q p : Place) → In q ps → k ≤ q.row → In p (leads_of rows q) → In p ps
 
     spread_closed : (k : ℕ) (ps : List Place) → Closed (suc k) ps → Closed k (spread rows k ps ps)
     spread_closed k ps h q p i l j = elim (spread_from k ps ps i) [
@@ -146,14 +128,14 @@ module _ (rows : List Row) where
     reached_counted last = walk_keeps (length rows) _ here
     reached_counted (next {p = q} {q = p} r i) = walk_closed (length rows) _ (λ q p j l. elim (only_last j l) [ ]) q p (reached_counted r) (omega arith) i
       where
-        only_last : {q : Place} → In q (record { row = length rows - 1; plus = true; level = 0 } ∷ []) → length rows ≤ q.row → ⊥
+        only_last : {q : Place} → In q (last_of rows ∷ []) → length rows ≤ q.row → ⊥
         only_last here l = omega (arith, ok.nonempty)
         only_last (there j) l = elim j [ ]
 
   pub counted_reached : {p : Place} → In p (places_of rows) → Reached rows p
   counted_reached i = walk_reached (length rows) _ start i
     where
-      start : (p : Place) → In p (record { row = length rows - 1; plus = true; level = 0 } ∷ []) → Reached rows p
+      start : (p : Place) → In p (last_of rows ∷ []) → Reached rows p
       start p here = last
       start p (there j) = elim j [ ]
 

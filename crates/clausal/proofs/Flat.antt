@@ -12,7 +12,7 @@ mutual
   pub worlds_length : (n : ℕ) (t : Tree) → length (worlds n t) ≡ size t
   worlds_length n (node v ts) = ap suc (worlds_all_length (suc n) ts)
 
-  pub worlds_all_length : (n : ℕ) (ts : Forest) → length (worlds_all n ts) ≡ sizes ts
+  worlds_all_length : (n : ℕ) (ts : Forest) → length (worlds_all n ts) ≡ sizes ts
   worlds_all_length n none = refl
   worlds_all_length n (more t ts) = length-append (worlds n t) (worlds_all (n + size t) ts) ∙ ap₂ (λ a b. a + b) (worlds_length n t) (worlds_all_length (n + size t) ts)
 
@@ -43,7 +43,7 @@ sits_alone t = subst (λ ws. Sits ws 0 t) (append-nil (worlds 0 t)) (sits t 0 []
 pub size_pos : (t : Tree) → 0 < size t
 size_pos (node v ts) = omega arith
 
-pub roots_below : (ts : Forest) (n b : ℕ) → n + sizes ts ≤ b → every (λ v. ltb v b) (roots n ts) ≡ true
+roots_below : (ts : Forest) (n b : ℕ) → n + sizes ts ≤ b → every (λ v. ltb v b) (roots n ts) ≡ true
 roots_below none n b h = refl
 roots_below (more t ts) n b h = and_from _ _ (lt-ltb n b (omega (arith, size_pos t))) (roots_below ts (n + size t) b (omega arith))
 
@@ -52,7 +52,7 @@ mutual
   pub inside : (t : Tree) (n b : ℕ) → n + size t ≤ b → every (λ w. every (λ v. ltb v b) w.successors) (worlds n t) ≡ true
   inside (node v ts) n b h = and_from _ _ (roots_below ts (suc n) b (omega arith)) (inside_all ts (suc n) b (omega arith))
 
-  pub inside_all : (ts : Forest) (n b : ℕ) → n + sizes ts ≤ b → every (λ w. every (λ v. ltb v b) w.successors) (worlds_all n ts) ≡ true
+  inside_all : (ts : Forest) (n b : ℕ) → n + sizes ts ≤ b → every (λ w. every (λ v. ltb v b) w.successors) (worlds_all n ts) ≡ true
   inside_all none n b h = refl
   inside_all (more t ts) n b h = every_append _ (worlds n t) (worlds_all (n + size t) ts) (inside t n b (omega arith)) (inside_all ts (n + size t) b (omega arith))
 

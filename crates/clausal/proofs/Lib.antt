@@ -1,4 +1,5 @@
 pub mod Rows
+pub mod Signed
 pub mod Gathered
 pub mod Forms
 pub mod Reading

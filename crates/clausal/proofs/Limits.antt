@@ -3,7 +3,7 @@ use Rattle.std.proofs.lemmas.Grind.{common_steps}
 use Rattle.std.proofs.lemmas.Bool.Decides.{nat_tests}
 use Rattle.std.proofs.Common.{◌≡◌, ℕ, zero, suc, ◌+◌, ◌*◌, ◌≤◌, Bool, cond, eqb, List, [], ◌∷◌, length, sym, refl, ap, ◌∙◌, subst, ap₂, inl, inr, arith, length-append}
 use Rattle.std.proofs.lemmas.Bool.{cases_eq, ne_eqb, cond-false}
-use Rattle.clausal.specs.Clausal.{Clausal, Writes, Written, defines, defines_name, defines_rule, gather, row_at, shape, start}
+use Rattle.clausal.specs.Clausal.{Clausal, EntryOf, DefinedBy, defines, defines_name, defines_rule, gather, row_at, shape, first_clauses}
 use Rattle.clausal.specs.Places.{lit}
 use Rattle.clausal.specs.States.{State}
 use Rattle.clausal.specs.declared.names.Name.{Name}
@@ -61,16 +61,16 @@ module _ (st : State) (l : ℕ) where
       let b = table_two (suc n) xs k in
       omega arith
 
-  written_length : (k : ℕ) (es : List Entry) → Written st l k es → length es ≡ length (start l) + sum (λ r. length (defines_rule st l r)) k
+  written_length : (k : ℕ) (es : List Entry) → DefinedBy st l k es → length es ≡ length (first_clauses l) + sum (λ r. length (defines_rule st l r)) k
   unfolding sum
-  written_length zero es m = sym (match_length Writes m) ∙ omega arith
+  written_length zero es m = sym (match_length EntryOf m) ∙ omega arith
   written_length (suc k) es (old, new, e, o, m) =
       let a = ap length e ∙ length-append old new in
       let b = written_length k old o in
-      let c = match_length Writes m in
+      let c = match_length EntryOf m in
       omega arith
 
-  start_one : length (start l) ≤ 1
+  start_one : length (first_clauses l) ≤ 1
   start_one = grind (arith, common_steps, nat_tests)
 
   pub few_definitions_lem : Clausal st → length (definitions (st.entries l)) ≤ 97

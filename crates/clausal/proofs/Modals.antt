@@ -14,7 +14,7 @@ use Rattle.clausal.specs.declared.names.Name.TheVariants.{Free as free, Place as
 use Rattle.clausal.specs.declared.shapes.Shape.{Shape}
 use Rattle.clausal.proofs.Forms.{Source, modal_from, boxed_is, diamonded_is}
 use Rattle.clausal.proofs.Gathered.{gathered}
-use Rattle.clausal.proofs.Reading.{Kids, kids}
+use Rattle.clausal.proofs.Signed.{Kids, kids}
 use Rattle.clausal.proofs.Rows.{lawful_rows, reached_ok}
 use Rattle.clausal.proofs.Small.{lit_small}
 

@@ -1,21 +1,19 @@
 -- The names of a session and what they read as.
 use Rattle.std.proofs.lemmas.Grind.{common_steps}
 use Rattle.std.proofs.lemmas.Bool.Decides.{nat_tests}
-use Rattle.std.proofs.Common.{◌≡◌, ℕ, suc, ◌+◌, ◌-◌, ◌<◌, Bool, true, false, not, List, length, get_or, sym, refl, ap, ◌∙◌, subst, arith}
+use Rattle.std.proofs.Common.{◌≡◌, ℕ, ◌+◌, ◌-◌, ◌<◌, Bool, true, not, List, length, sym, refl, ap, ◌∙◌, subst, arith}
 use Rattle.std.proofs.lemmas.Bool.{eq-eqb, le-ltb, lt-ltb, ne_eqb, cond-true}
-use Rattle.clausal.proofs.Rows.{Lawful, RowOk, form_is, lawful_rows, literal_is, reached_ok, says_shape, shape_says}
-use Rattle.clausal.specs.Clausal.{Naming, Proper, row_at, shape, wants_name}
-use Rattle.clausal.specs.Places.{Reached, is_place_of, leads, lit, literal_of, literals_of, name_of, next, sign_eq}
-use Rattle.clausal.specs.States.{State, at_world, handle_of, is_handle_of, reads_name, rule_at, signed}
+use Rattle.clausal.proofs.Rows.{Lawful, RowOk, form_is, lawful_rows, literal_is, reached_ok}
+use Rattle.clausal.proofs.Signed.{says_shape, shape_says}
+use Rattle.clausal.specs.Clausal.{Naming, Proper, row_at, shape, takes_name}
+use Rattle.clausal.specs.Places.{Reached, is_place_of, lit, literal_of, literals_of, name_of, next, sign_eq, constant}
+use Rattle.clausal.specs.States.{State, at_world, handle_of, is_handle_of, reads_name, rule_at, signed, name_at}
 use Rattle.clausal.specs.declared.names.Name.{Name}
 use Rattle.clausal.specs.declared.names.Name.TheVariants.{Free as free, Handle as handle, Place as place}
-use Rattle.clausal.specs.declared.places.Place.{Place}
-use Rattle.clausal.specs.declared.shapes.Shape.{Shape}
-use Rattle.clausal.specs.declared.shapes.Shape.TheVariants.{All as all, Both as both, Either as either, One as one, Plain as plain}
 use Rattle.atoms.specs.Clauses.{Valuation, obeys_one}
 use Rattle.lists.proofs.Firsts.{first_passes}
 use Rattle.lists.proofs.Members.{smaller, some_from}
-use Rattle.lists.specs.Lists.{In, first_at, here, there}
+use Rattle.lists.specs.Lists.{In, first_at, here}
 use Rattle.modal.specs.Kripke.{Formula, World, falsum, letter, meets, neg, verum}
 use Rattle.modal.specs.Rows.{formula_at, form_of, forms}
 use Rattle.modal.specs.declared.row.Row.{Row}
@@ -38,62 +36,37 @@ handle_known v1 v2 v3 = grind (arith, common_steps, nat_tests)
 
 module _ (st : State) where
   -- where a name that is taken stands in its table
-  pub place_at : (l r k : ℕ) (s : Bool) → In (place r k s) (st.names l) → (i : ℕ) × (i < length (st.names l)) × (name_of st l r k s ≡ 16 + i) × (get_or (st.names l) i free ≡ place r k s)
+  pub place_at : (l r k : ℕ) (s : Bool) → In (place r k s) (st.names l) → (i : ℕ) × (i < length (st.names l)) × (name_of st l r k s ≡ 16 + i) × (name_at st l i ≡ place r k s)
   place_at l r k s h =
       let found = some_from (is_place_of r k s) h (place_is r k s) in
       let (e, i) = first_passes (is_place_of r k s) free (st.names l) found in
       (first_at (is_place_of r k s) (st.names l), i, cond-true _ _ _ found, place_known r k s _ e)
 
-  pub handle_at : (r : ℕ) → In (handle r) (st.names 0) → (i : ℕ) × (i < length (st.names 0)) × (handle_of st r ≡ 16 + i) × (get_or (st.names 0) i free ≡ handle r)
+  pub handle_at : (r : ℕ) → In (handle r) (st.names 0) → (i : ℕ) × (i < length (st.names 0)) × (handle_of st r ≡ 16 + i) × (name_at st 0 i ≡ handle r)
   handle_at r h =
       let found = some_from (is_handle_of r) h (eq-eqb r r refl) in
       let (e, i) = first_passes (is_handle_of r) free (st.names 0) found in
       (first_at (is_handle_of r) (st.names 0), i, refl, handle_known r _ e)
 
   -- how a world reads the name in slot i
-  pub reading_name : (l i : ℕ) (u : Valuation) (ws : List World) (w : ℕ) → at_world st l u ws w (16 + i) ≡ reads_name st (u (16 + i)) ws w (get_or (st.names l) i free)
+  pub reading_name : (l i : ℕ) (u : Valuation) (ws : List World) (w : ℕ) → at_world st l u ws w (16 + i) ≡ reads_name st (u (16 + i)) ws w (name_at st l i)
   reading_name l i u ws w =
       let a = le-ltb (16 + i) 15 (omega arith) in
       let b = ne_eqb (16 + i) 15 (λ e. omega arith) in
       let c : 16 + i - 16 ≡ i = omega arith in
       rw (a, b, c)
 
-  pub reading_letter : (l a : ℕ) (u : Valuation) (ws : List World) (w : ℕ) → a < 15 → at_world st l u ws w a ≡ meets (letter a) ws w
+  reading_letter : (l a : ℕ) (u : Valuation) (ws : List World) (w : ℕ) → a < 15 → at_world st l u ws w a ≡ meets (letter a) ws w
   reading_letter l a u ws w h = cond-true _ _ _ (lt-ltb a 15 h)
 
 pub flip_sign : (s : Bool) (f : Formula) (ws : List World) (w : ℕ) → meets (signed (not s) f) ws w ≡ meets (signed s (neg f)) ws w
 flip_sign v1 v2 v3 v4 = grind (arith, common_steps, nat_tests)
 
-pub fixed : (s : Bool) (v : Valuation) (ws : List World) (w : ℕ) → v 15 ≡ true → (obeys_one v (record { atom = 15; holds = not s }) ≡ meets (signed s falsum) ws w) × (obeys_one v (record { atom = 15; holds = s }) ≡ meets (signed s verum) ws w)
+pub fixed : (s : Bool) (v : Valuation) (ws : List World) (w : ℕ) → v 15 ≡ true → (obeys_one v (constant (not s)) ≡ meets (signed s falsum) ws w) × (obeys_one v (constant s) ≡ meets (signed s verum) ws w)
 fixed v1 v2 v3 v4 v5 = grind (arith, common_steps, nat_tests)
 
 pub lettered : (s : Bool) (v : Valuation) (a : ℕ) (f : Formula) (ws : List World) (w : ℕ) → v a ≡ meets f ws w → obeys_one v (record { atom = a; holds = s }) ≡ meets (signed s f) ws w
 lettered v1 v2 v3 v4 v5 v6 v7 = grind (arith, common_steps, nat_tests)
-
--- the places that a named place leads to are reached
-abbrev pub Kids : List Row → Bool → ℕ → Shape → Type 0
-Kids rows s l plain = Unit {0}
-Kids rows s l (both c e) = Reached rows (record { row = c; plus = s; level = l }) × Reached rows (record { row = e; plus = s; level = l })
-Kids rows s l (either c e) = Reached rows (record { row = c; plus = s; level = l }) × Reached rows (record { row = e; plus = s; level = l })
-Kids rows s l (all c) = Reached rows (record { row = c; plus = s; level = suc l })
-Kids rows s l (one c) = Reached rows (record { row = c; plus = s; level = suc l })
-
-pub kids : (rows : List Row) (k : ℕ) (s : Bool) (l : ℕ) → Reached rows (record { row = k; plus = s; level = l }) → Kids rows s l (shape (get_or rows k False) s)
-kids rows k s l x = go s (get_or rows k False) (λ q. next x)
-  where
-    go : (t : Bool) (row : Row) → ((q : Place) → In q (leads row t l) → Reached rows q) → Kids rows t l (shape row t)
-    go t False to = tt
-    go t True to = tt
-    go t (Letter a) to = tt
-    go t (Not c) to = tt
-    go true (And c e) to = (to _ here, to _ (there here))
-    go false (And c e) to = (to _ here, to _ (there here))
-    go true (Or c e) to = (to _ here, to _ (there here))
-    go false (Or c e) to = (to _ here, to _ (there here))
-    go true (Box c) to = to _ here
-    go false (Box c) to = to _ here
-    go true (Diamond c) to = to _ here
-    go false (Diamond c) to = to _ here
 
 module _ (st : State) (tb : Naming st) (l : ℕ) (u : Valuation) (ws : List World) (w : ℕ) where
   -- what a place's row says with its sign, at a world of a model
@@ -106,7 +79,7 @@ module _ (st : State) (tb : Naming st) (l : ℕ) (u : Valuation) (ws : List Worl
   abbrev Reads : ℕ → ℕ → Type 0
   Reads r k = (s : Bool) → Reached (rule_at st r) (record { row = k; plus = s; level = l }) → obeys_one valued (lit st r l s k) ≡ truth r k s
 
-  pub name_reads : (i r k : ℕ) (s : Bool) → get_or (st.names l) i free ≡ place r k s → valued (16 + i) ≡ truth r k s
+  name_reads : (i r k : ℕ) (s : Bool) → name_at st l i ≡ place r k s → valued (16 + i) ≡ truth r k s
   name_reads i r k s e = reading_name st l i u ws w ∙ ap (reads_name st (u (16 + i)) ws w) e
 
   -- the literal of a reached place reads as its row with its sign
@@ -125,8 +98,8 @@ module _ (st : State) (tb : Naming st) (l : ℕ) (u : Valuation) (ws : List Worl
           form : (row : Row) → row_at st r k ≡ row → meets (signed s (form_of (forms (rule_at st r)) row)) ws w ≡ truth r k s
           form row e = ap (λ f. meets (signed s f) ws w) (sym (form_is (rule_at st r) ok k kin ∙ ap (form_of (forms (rule_at st r))) e))
 
-          name : (row : Row) → row_at st r k ≡ row → wants_name row ≡ true → valued (name_of st l r k s) ≡ truth r k s
-          name row e t = let (i, _, n, at) = place_at st l r k s (tb.named r _ h x (ap wants_name e ∙ t)) in ap valued n ∙ name_reads i r k s at
+          name : (row : Row) → row_at st r k ≡ row → takes_name row ≡ true → valued (name_of st l r k s) ≡ truth r k s
+          name row e t = let (i, _, n, at) = place_at st l r k s (tb.named r _ h x (ap takes_name e ∙ t)) in ap valued n ∙ name_reads i r k s at
 
           go : (row : Row) → row_at st r k ≡ row → obeys_one valued (literal_of (name_of st l r) (literals_of (name_of st l r) (rule_at st r)) k row s) ≡ truth r k s
           go False e = (fixed s valued ws w refl).0 ∙ form False e
@@ -139,7 +112,7 @@ module _ (st : State) (tb : Naming st) (l : ℕ) (u : Valuation) (ws : List Worl
           go (Diamond c) e = name (Diamond c) e refl
 
   -- a name reads as its row's shape over the rows that it leads to
-  pub name_shape : (i r k : ℕ) (s : Bool) → get_or (st.names l) i free ≡ place r k s → valued (16 + i) ≡ says_shape (formula_at (forms (rule_at st r))) s ws w (shape (row_at st r k) s)
+  pub name_shape : (i r k : ℕ) (s : Bool) → name_at st l i ≡ place r k s → valued (16 + i) ≡ says_shape (formula_at (forms (rule_at st r))) s ws w (shape (row_at st r k) s)
   name_shape i r k s e =
       let (h, x, t) = subst (Proper st l) e (tb.proper l i) in
       let ok = lawful_rows _ (tb.all_lawful r h) in

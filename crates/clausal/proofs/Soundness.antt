@@ -1,33 +1,25 @@
 -- Soundness: at every world of every model the clausal form is true, and so is what is learnt from it.
--- a literal of the list that is true
-use Rattle.std.proofs.Common.{◌≡◌, ℕ, suc, ◌+◌, ◌-◌, ◌<◌, Bool, true, false, cond, not, eqb, ltb, List, [], ◌∷◌, length, get_or, sym, refl, ap, ◌∙◌, subst, inl, inr}
-use Rattle.std.proofs.lemmas.Bool.{and_parts, or_cases, cases_Bool}
-use Rattle.clausal.proofs.Forms.{boxed_is, clause_made, diamonded_is, modal_from, written_from}
+use Rattle.std.proofs.Common.{◌≡◌, ℕ, suc, ◌+◌, ◌-◌, ◌<◌, Bool, true, false, cond, eqb, ltb, List, [], ◌∷◌, length, sym, refl, ap, ◌∙◌, subst, inl, inr}
+use Rattle.std.proofs.lemmas.Bool.{and_parts, or_cases}
+use Rattle.clausal.proofs.Forms.{Holding, unless, boxed_is, clause_made, diamonded_is, modal_from, written_from}
 use Rattle.clausal.proofs.Gathered.{gathered}
-use Rattle.clausal.proofs.Reading.{Kids, kids, literal_reads, name_shape, reading_name}
-use Rattle.clausal.proofs.Rows.{says_shape}
-use Rattle.clausal.specs.Clausal.{Clausal, Naming, Proper, boxed, defines, defines_name, diamonded, negation, row_at, shape, start}
-use Rattle.clausal.specs.Places.{Reached, last, lit}
-use Rattle.clausal.specs.States.{State, at_world, reads_name, rule_at}
+use Rattle.clausal.proofs.Signed.{Kids, kids, says_shape}
+use Rattle.clausal.proofs.Reading.{literal_reads, name_shape, reading_name}
+use Rattle.clausal.specs.Clausal.{Clausal, Naming, Proper, boxed, defines, defines_name, diamonded, row_at, shape, first_clauses}
+use Rattle.clausal.specs.Places.{Reached, last, lit, constant, rule_lit}
+use Rattle.clausal.specs.States.{State, at_world, reads_name, rule_at, name_at}
 use Rattle.clausal.specs.declared.modal_clauses.ModalClause.{ModalClause}
 use Rattle.clausal.specs.declared.names.Name.{Name}
 use Rattle.clausal.specs.declared.names.Name.TheVariants.{Free as free, Handle as handle, Place as place}
 use Rattle.clausal.specs.declared.shapes.Shape.{Shape}
 use Rattle.clausal.specs.declared.shapes.Shape.TheVariants.{All as all, Both as both, Either as either, One as one, Plain as plain}
-use Rattle.atoms.specs.Clauses.{Valuation, definitions, makes, obeys_one}
+use Rattle.atoms.specs.Clauses.{Valuation, definitions, makes, obeys_one, negation}
 use Rattle.atoms.specs.declared.clauses.Entry.{Entry}
 use Rattle.atoms.specs.declared.clauses.Literal.{Literal}
 use Rattle.lists.proofs.Members.{every_in, some_in}
 use Rattle.lists.specs.Lists.{In, here, there}
 use Rattle.modal.specs.Kripke.{World, world}
 use Rattle.modal.specs.Rows.{formula_at, forms}
-
-abbrev Holding : Valuation → List Literal → Type 0
-Holding v xs = (x : Literal) × In x xs × (obeys_one v x ≡ true)
-
--- a clause "not n, or .." is true as soon as n implies one of the others
-unless : (v : Valuation) (n : ℕ) (xs : List Literal) → (v n ≡ true → Holding v xs) → Holding v (negation n ∷ xs)
-unless v n xs f = elim (cases_Bool (v n)) [ inl e ↦ (let (x, i, o) = f e in (x, there i, o)) | inr e ↦ (negation n, here, ap not e) ]
 
 module _ (st : State) (cl : Clausal st) (l : ℕ) (u : Valuation) (ws : List World) (w : ℕ) where
   abbrev tb : Naming st
@@ -48,7 +40,7 @@ module _ (st : State) (cl : Clausal st) (l : ℕ) (u : Valuation) (ws : List Wor
   shape_true r n s (either c d) h k e (there i) = elim i [ ]
 
   -- a definition of a name of the table is true
-  name_true : (r i : ℕ) (x : Name) → get_or (st.names l) i free ≡ x → {xs : List Literal} → In xs (defines_name st l r (16 + i) x) → Holding val xs
+  name_true : (r i : ℕ) (x : Name) → name_at st l i ≡ x → {xs : List Literal} → In xs (defines_name st l r (16 + i) x) → Holding val xs
   name_true r i free e j = elim j [ ]
   name_true r i (place q k s) e j = go (eqb r q) j
     where
@@ -57,15 +49,15 @@ module _ (st : State) (cl : Clausal st) (l : ℕ) (u : Valuation) (ws : List Wor
       go true j = let (h, x, t) = subst (Proper st l) e (tb.proper l i) in shape_true q (16 + i) s (shape (row_at st q k) s) h (kids (rule_at st q) k s l x) (name_shape st tb l u ws w i q k s e) j
   name_true r i (handle q) e j = go (eqb r q) j
     where
-      go : {xs : List Literal} (b : Bool) → In xs (cond b ((negation (16 + i) ∷ (lit st q 0 true (length (rule_at st q) - 1) ∷ [])) ∷ []) []) → Holding val xs
+      go : {xs : List Literal} (b : Bool) → In xs (cond b ((negation (16 + i) ∷ (rule_lit st q ∷ [])) ∷ []) []) → Holding val xs
       go false j = elim j [ ]
       go true (there j) = elim j [ ]
       go true here = let (h, z) = subst (Proper st l) e (tb.proper l i) in unless val (16 + i) _ (λ t. (_, here, subst (λ n. obeys_one val (lit st q n true (length (rule_at st q) - 1)) ≡ true) z (literal_reads st tb l u ws w q h (length (rule_at st q) - 1) true (subst (λ n. Reached (rule_at st q) (record { row = length (rule_at st q) - 1; plus = true; level = n })) (sym z) last) ∙ (sym (reading_name st l i u ws w ∙ ap (reads_name st (u (16 + i)) ws w) e) ∙ t))))
 
-  start_true : {xs : List Literal} → In xs (start l) → Holding val xs
+  start_true : {xs : List Literal} → In xs (first_clauses l) → Holding val xs
   start_true i = go (ltb l 8) i
     where
-      go : {xs : List Literal} (b : Bool) → In xs (cond b ((record { atom = 15; holds = true } ∷ []) ∷ []) []) → Holding val xs
+      go : {xs : List Literal} (b : Bool) → In xs (cond b ((constant true ∷ []) ∷ []) []) → Holding val xs
       go false j = elim j [ ]
       go true (there j) = elim j [ ]
       go true here = (_, here, refl)
@@ -74,7 +66,7 @@ module _ (st : State) (cl : Clausal st) (l : ℕ) (u : Valuation) (ws : List Wor
   pub definition_true : (e : Entry) → In e (definitions (st.entries l)) → makes val e.clause ≡ true
   definition_true e i =
       let (xs, c, from) = written_from st l (length st.rules) (definitions (st.entries l)) (cl.written l) i in
-      let truly : Holding val xs = elim from [ inl j ↦ start_true j | inr (r, j) ↦ (let (k, _, q) = gathered (defines_name st l r) 16 (st.names l) j in name_true r k (get_or (st.names l) k free) refl q) ] in
+      let truly : Holding val xs = elim from [ inl j ↦ start_true j | inr (r, j) ↦ (let (k, _, q) = gathered (defines_name st l r) 16 (st.names l) j in name_true r k (name_at st l k) refl q) ] in
       clause_made val c truly.0 truly.1 truly.2
 
   -- box and diamond clauses: the name at a world, and the literal at its successors

@@ -1,24 +1,22 @@
 -- Completeness: the root of a complete tree meets what its valuation names.
-use Rattle.std.proofs.lemmas.Grind.{common_steps}
-use Rattle.std.proofs.lemmas.Bool.Decides.{nat_tests}
-use Rattle.std.proofs.Common.{◌≡◌, ℕ, suc, ◌+◌, ◌-◌, ◌<◌, Bool, true, not, ◌&&◌, ltb, ◌⊎◌, List, [], ◌∷◌, length, get_or, sym, refl, ap, ◌∙◌, subst, inl, inr, arith}
-use Rattle.std.proofs.lemmas.Bool.{and_from, or_left, or_right, eq-eqb, lt-ltb, both_ways}
+use Rattle.std.proofs.Common.{◌≡◌, ℕ, suc, ◌+◌, ◌-◌, ◌<◌, Bool, true, not, ◌&&◌, ltb, List, [], ◌∷◌, length, sym, refl, ap, ◌∙◌, subst, inl, inr, arith}
+use Rattle.std.proofs.lemmas.Bool.{and_from, or_left, or_right, eq-eqb, lt-ltb}
 use Rattle.clausal.proofs.Flat.{model_of, Sits, SitsAll, sits_alone}
-use Rattle.clausal.proofs.Forms.{clause_cases, modal_in, rule_in, start_in}
+use Rattle.clausal.proofs.Forms.{Holding, clause_cases, modal_in, of_two, only, rule_in, start_in, then_one}
 use Rattle.clausal.proofs.Gathered.{gather_in}
-use Rattle.clausal.proofs.Reading.{Kids, fixed, flip_sign, handle_at, kids, lettered, place_at}
-use Rattle.clausal.proofs.Rows.{Below, Lawful, RowOk, form_is, lawful_rows, literal_is, reached_ok, says_shape, shape_below, shape_says}
-use Rattle.clausal.specs.Clausal.{Clausal, ClauseOf, boxed, defines, defines_name, diamonded, negation, row_at, shape, wants_name}
-use Rattle.clausal.specs.Places.{Reached, last, lit, literal_of, literals_of, name_of, next}
-use Rattle.clausal.specs.States.{State, fired, handle_of, literals, rule_at, signed}
+use Rattle.clausal.proofs.Reading.{fixed, flip_sign, handle_at, lettered, place_at}
+use Rattle.clausal.proofs.Signed.{Below, Kids, kids, says_shape, shape_below, shape_says}
+use Rattle.clausal.proofs.Rows.{Lawful, RowOk, form_is, lawful_rows, literal_is, reached_ok}
+use Rattle.clausal.specs.Clausal.{Clausal, boxed, defines, defines_name, diamonded, row_at, shape, takes_name}
+use Rattle.clausal.specs.Places.{Reached, last, lit, literal_of, literals_of, name_of, next, constant, rule_lit}
+use Rattle.clausal.specs.States.{State, fired, handle_of, literals, rule_at, signed, name_at}
 use Rattle.clausal.specs.Laws.{RootMeets}
 use Rattle.clausal.specs.Trees.{root, Complete, CompleteAll, Forest, Tree, more, node, none, roots, size, worlds}
 use Rattle.clausal.specs.declared.modal_clauses.ModalClause.{ModalClause}
-use Rattle.clausal.specs.declared.names.Name.TheVariants.{Free as free, Handle as handle, Place as place}
+use Rattle.clausal.specs.declared.names.Name.TheVariants.{Handle as handle, Place as place}
 use Rattle.clausal.specs.declared.shapes.Shape.{Shape}
 use Rattle.clausal.specs.declared.shapes.Shape.TheVariants.{All as all, Both as both, Either as either, One as one, Plain as plain}
-use Rattle.atoms.specs.Clauses.{makes_all, Valuation, definitions, makes, obeys_one}
-use Rattle.atoms.specs.declared.clauses.Clause.{Clause}
+use Rattle.atoms.specs.Clauses.{makes_all, Valuation, definitions, obeys_one, negation}
 use Rattle.atoms.specs.declared.clauses.Literal.{Literal}
 use Rattle.lists.proofs.Members.{every_in, in_kept, smaller, some_from}
 use Rattle.lists.specs.Lists.{In, every, here, some, there}
@@ -34,30 +32,8 @@ in_literals : {m : ModalClause} {ms : List ModalClause} → In m ms → In m.lit
 in_literals here = here
 in_literals (there i) = there (in_literals i)
 
-abbrev Holding : Valuation → List Literal → Type 0
-Holding v xs = (x : Literal) × In x xs × (obeys_one v x ≡ true)
-
-only : (v : Valuation) (y : Literal) → Holding v (y ∷ []) → obeys_one v y ≡ true
-only v y v3 = grind (arith, common_steps, nat_tests)
-
-of_two : (v : Valuation) (y z : Literal) → Holding v (y ∷ (z ∷ [])) → (obeys_one v y ≡ true) ⊎ (obeys_one v z ≡ true)
-of_two v y z (x, i, o) = go i o
-  where
-    go : {x : Literal} → In x (y ∷ (z ∷ [])) → obeys_one v x ≡ true → (obeys_one v y ≡ true) ⊎ (obeys_one v z ≡ true)
-    go here o = inl o
-    go (there here) o = inr o
-    go (there (there j)) o = elim j [ ]
-
--- a clause "not n, or .." with n in leaves the others
-then_one : (v : Valuation) (n : ℕ) (xs : List Literal) (c : Clause) → v n ≡ true → ClauseOf (negation n ∷ xs) c → makes v c ≡ true → Holding v xs
-then_one v n xs c t k m = let (x, i, o) = clause_cases v k m in go x i o
-  where
-    go : (x : Literal) → In x (negation n ∷ xs) → obeys_one v x ≡ true → Holding v xs
-    go x here o = absurd (both_ways _ (ap not t) o)
-    go x (there i) o = (x, i, o)
-
 module _ (st : State) (ws : List World) (l : ℕ) (bs : List Literal) where
-  -- a test that every part passes, and a part that a fired diamond has
+  -- a test that every successor's tree passes, and the tree of a fired diamond
   every_part : (p : ℕ → Bool) → ((d : ModalClause) (t : Tree) (n : ℕ) → Complete st l (d.literal ∷ bs) t → Sits ws n t → p n ≡ true) → (ts : Forest) (n : ℕ) (ds : List ModalClause) → CompleteAll st l bs ds ts → SitsAll ws n ts → every p (roots n ts) ≡ true
   every_part p f none n ds c s = refl
   every_part p f (more t ts) n ds (d, rest, e, c, cs) s = and_from _ _ (f d t n c s.0) (every_part p f ts (n + size t) rest cs s.1)
@@ -69,9 +45,9 @@ module _ (st : State) (ws : List World) (l : ℕ) (bs : List Literal) where
   first_or_later t n ns here c s rec = (t, n, here, c, s)
   first_or_later t n ns (there i) c s rec = let (u, m, j, d, z) = rec i in (u, m, there j, d, z)
 
-  part_of : (d : ModalClause) (ts : Forest) (n : ℕ) (ds : List ModalClause) → In d ds → CompleteAll st l bs ds ts → SitsAll ws n ts → Part d (roots n ts)
-  part_of d none n ds i c s = elim (subst (In d) c i) [ ]
-  part_of d (more t ts) n ds i (b, rest, e, c, cs) s = first_or_later t n (roots (n + size t) ts) (subst (In d) e i) c s.0 (λ j. part_of d ts (n + size t) rest j cs s.1)
+  part_with : (d : ModalClause) (ts : Forest) (n : ℕ) (ds : List ModalClause) → In d ds → CompleteAll st l bs ds ts → SitsAll ws n ts → Part d (roots n ts)
+  part_with d none n ds i c s = elim (subst (In d) c i) [ ]
+  part_with d (more t ts) n ds i (b, rest, e, c, cs) s = first_or_later t n (roots (n + size t) ts) (subst (In d) e i) c s.0 (λ j. part_with d ts (n + size t) rest j cs s.1)
 
 module _ (st : State) (cl : Clausal st) (ws : List World) (r : ℕ) (h : r < length st.rules) where
   -- row k is met with its sign wherever a complete tree's root has the place's literal
@@ -86,7 +62,7 @@ module _ (st : State) (cl : Clausal st) (ws : List World) (r : ℕ) (h : r < len
     kin = (reached_ok (rule_at st r) ok x).0
 
     -- the place has a name, which is in: by its shape
-    module _ (i : ℕ) (il : i < length (st.names l)) (e : get_or (st.names l) i free ≡ place r k s) (o : v (16 + i) ≡ true) (sh : Shape) (q : shape (row_at st r k) s ≡ sh) where
+    module _ (i : ℕ) (il : i < length (st.names l)) (e : name_at st l i ≡ place r k s) (o : v (16 + i) ≡ true) (sh : Shape) (q : shape (row_at st r k) s ≡ sh) where
       given : (ys : List Literal) → In (negation (16 + i) ∷ ys) (defines (16 + i) (lit st r l s) sh) → Holding v ys
       given ys j =
           let here' : In (negation (16 + i) ∷ ys) (defines_name st l r (16 + i) (place r k s)) = rw (eq-eqb r r refl, q) j in
@@ -99,7 +75,7 @@ module _ (st : State) (cl : Clausal st) (ws : List World) (r : ℕ) (h : r < len
       diamond_fires : (a : ℕ) → In a (diamonded sh) → In (record { name = 16 + i; literal = lit st r (suc l) s a }) (fired v (st.diamonds l))
       diamond_fires a j = in_kept (λ m. v m.name) (subst (In _) (sym (cl.diamonds l)) (modal_in diamonded st l i r k s a il e (rw q j))) o
 
-    shape_met : (i : ℕ) → i < length (st.names l) → get_or (st.names l) i free ≡ place r k s → v (16 + i) ≡ true → (sh : Shape) → shape (row_at st r k) s ≡ sh → Kids (rule_at st r) s l sh → Below k sh → says_shape (formula_at (forms (rule_at st r))) s ws n sh ≡ true
+    shape_met : (i : ℕ) → i < length (st.names l) → name_at st l i ≡ place r k s → v (16 + i) ≡ true → (sh : Shape) → shape (row_at st r k) s ≡ sh → Kids (rule_at st r) s l sh → Below k sh → says_shape (formula_at (forms (rule_at st r))) s ws n sh ≡ true
     shape_met i il e o plain q y b = refl
     shape_met i il e o (both a d) q y b = and_from _ _ (rec a b.0 s l xs (node v ts) n y.0 c sits (only v _ (given i il e o (both a d) q _ here))) (rec d b.1 s l xs (node v ts) n y.1 c sits (only v _ (given i il e o (both a d) q _ (there here))))
     shape_met i il e o (either a d) q y b = elim (of_two v _ _ (given i il e o (either a d) q _ here)) [
@@ -110,7 +86,7 @@ module _ (st : State) (cl : Clausal st) (ws : List World) (r : ℕ) (h : r < len
         ap (λ w. every (meets (signed s (formula_at (forms (rule_at st r)) a)) ws) w.successors) sits.0 ∙
         every_part st ws (suc l) (literals (fired v (st.boxes l))) _ (λ d t m ct mt. rec a b s (suc l) (d.literal ∷ literals (fired v (st.boxes l))) t m y ct mt (root_obeys st (suc l) _ t ct _ (there (in_literals (box_fires i il e o (all a) q a here))))) ts (suc n) (fired v (st.diamonds l)) c.2 sits.1
     shape_met i il e o (one a) q y b =
-        let (t, m, j, ct, mt) = part_of st ws (suc l) (literals (fired v (st.boxes l))) _ ts (suc n) (fired v (st.diamonds l)) (diamond_fires i il e o (one a) q a here) c.2 sits.1 in
+        let (t, m, j, ct, mt) = part_with st ws (suc l) (literals (fired v (st.boxes l))) _ ts (suc n) (fired v (st.diamonds l)) (diamond_fires i il e o (one a) q a here) c.2 sits.1 in
         ap (λ w. some (meets (signed s (formula_at (forms (rule_at st r)) a)) ws) w.successors) sits.0 ∙
         some_from _ j (rec a b s (suc l) _ t m y ct mt (root_obeys st (suc l) (lit st r (suc l) s a ∷ literals (fired v (st.boxes l))) t ct _ here))
 
@@ -124,10 +100,10 @@ module _ (st : State) (cl : Clausal st) (ws : List World) (r : ℕ) (h : r < len
       top : v 15 ≡ true
       top =
           let e : ltb l 8 ≡ true = lt-ltb l 8 (omega (arith, (reached_ok (rule_at st r) ok x).1)) in
-          let (en, ej, w) = start_in st l (length st.rules) (definitions (st.entries l)) (cl.written l) {xs = record { atom = 15; holds = true } ∷ []} (rw e here) in
+          let (en, ej, w) = start_in st l (length st.rules) (definitions (st.entries l)) (cl.written l) {xs = constant true ∷ []} (rw e here) in
           only v _ (clause_cases v w (every_in _ ej c.1))
 
-      named_met : wants_name (row_at st r k) ≡ true → v (name_of st l r k s) ≡ true → meets (signed s (formula_at (forms (rule_at st r)) k)) ws n ≡ true
+      named_met : takes_name (row_at st r k) ≡ true → v (name_of st l r k s) ≡ true → meets (signed s (formula_at (forms (rule_at st r)) k)) ws n ≡ true
       named_met t z =
           let (i, il, m, e) = place_at st l r k s (cl.naming.named r _ h x t) in
           form (row_at st r k) refl (shape_says (forms (rule_at st r)) (row_at st r k) s ws n t ∙ shape_met i il e (ap v (sym m) ∙ z) (shape (row_at st r k) s) refl (kids (rule_at st r) k s l x) (shape_below k (row_at st r k) s (ok.ordered k kin)))
@@ -137,16 +113,16 @@ module _ (st : State) (cl : Clausal st) (ws : List World) (r : ℕ) (h : r < len
       step True e = form True e (sym (fixed s v ws n top).1 ∙ obeyed True e)
       step (Letter a) e = form (Letter a) e (sym (lettered s v a (letter a) ws n (sym (ap (λ w. w.letters a) sits.0 ∙ ap (λ b. b && v a) (lt-ltb a 15 (subst (RowOk k) e (ok.ordered k kin)))))) ∙ obeyed (Letter a) e)
       step (Not a) e = form (Not a) e (sym (flip_sign s (formula_at (forms (rule_at st r)) a) ws n) ∙ rec a (subst (RowOk k) e (ok.ordered k kin)) (not s) l xs (node v ts) n (next x (rw e here)) c sits (obeyed (Not a) e))
-      step (And a d) e = named_met (ap wants_name e) (obeyed (And a d) e)
-      step (Or a d) e = named_met (ap wants_name e) (obeyed (Or a d) e)
-      step (Box a) e = named_met (ap wants_name e) (obeyed (Box a) e)
-      step (Diamond a) e = named_met (ap wants_name e) (obeyed (Diamond a) e)
+      step (And a d) e = named_met (ap takes_name e) (obeyed (And a d) e)
+      step (Or a d) e = named_met (ap takes_name e) (obeyed (Or a d) e)
+      step (Box a) e = named_met (ap takes_name e) (obeyed (Box a) e)
+      step (Diamond a) e = named_met (ap takes_name e) (obeyed (Diamond a) e)
 
   met : (k : ℕ) → ((j : ℕ) → j < k → Met j) → Met k
   met k rec s l xs (node v ts) n x c sits o = step k rec s l xs v ts n x c sits o (row_at st r k) refl
 
   -- the truth lemma
-  pub row_met : (k : ℕ) → Met k
+  row_met : (k : ℕ) → Met k
   row_met = smaller Met met
 
 module _ (st : State) (cl : Clausal st) (l : ℕ) (xs : List Literal) (t : Tree) (whole : Complete st l xs t) where
@@ -154,7 +130,7 @@ module _ (st : State) (cl : Clausal st) (l : ℕ) (xs : List Literal) (t : Tree)
   last_obeyed : (r : ℕ) → r < length st.rules → l ≡ 0 → (u : Tree) → Complete st l xs u → root u (handle_of st r) ≡ true → obeys_one (root u) (lit st r l true (length (rule_at st r) - 1)) ≡ true
   last_obeyed r h z (node v ts) c o =
       let (n, nl, e, q) = handle_at st r (cl.naming.handled r h) in
-      let j : In (negation (16 + n) ∷ (lit st r 0 true (length (rule_at st r) - 1) ∷ [])) (defines_name st 0 r (16 + n) (handle r)) = rw (eq-eqb r r refl) here in
+      let j : In (negation (16 + n) ∷ (rule_lit st r ∷ [])) (defines_name st 0 r (16 + n) (handle r)) = rw (eq-eqb r r refl) here in
       let (en, ej, w) = rule_in st 0 (length st.rules) (definitions (st.entries 0)) (cl.written 0) r h (gather_in (defines_name st 0 r) 16 (st.names 0) n nl (rw q j)) in
       let made = subst (λ m. makes_all v (definitions (st.entries m)) ≡ true) z c.1 in
       subst (λ m. obeys_one v (lit st r m true (length (rule_at st r) - 1)) ≡ true) (sym z) (only v _ (then_one v (16 + n) _ en.clause (ap v (sym e) ∙ o) w (every_in _ ej made)))

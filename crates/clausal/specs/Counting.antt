@@ -1,11 +1,11 @@
 -- How many names a rule takes at each level, and so when adding is refused.
-use Rattle.std.specs.Prelude.{ℕ, zero, suc, ◌+◌, ◌-◌, Bool, true, cond, ◌&&◌, List, [], ◌∷◌, ◌++◌, length, Ok, Err, filter, Result, ◌==◌, nat_le, nat_lt, slice_index_or}
+use Rattle.std.specs.Prelude.{ℕ, zero, suc, ◌+◌, Bool, cond, ◌&&◌, List, [], ◌∷◌, ◌++◌, length, Ok, Err, filter, Result, ◌==◌, nat_le, nat_lt, slice_index_or}
 use Rattle.std.specs.List.{range_with_len}
 use Rattle.lists.specs.Lists.{some, first_at}
 use Rattle.modal.specs.declared.row.Row.{Row}
 use Rattle.modal.specs.declared.row.Row.TheVariants.{False}
-use Rattle.clausal.specs.Clausal.{wants_name}
-use Rattle.clausal.specs.Places.{leads, sign_eq}
+use Rattle.clausal.specs.Clausal.{takes_name}
+use Rattle.clausal.specs.Places.{last_of, leads_of, sign_eq}
 use Rattle.clausal.specs.declared.faults.AddFault.{AddFault}
 use Rattle.clausal.specs.declared.faults.AddFault.TheVariants.{TooManyRules, TooManyNames}
 use Rattle.clausal.specs.declared.places.Place.{Place}
@@ -21,20 +21,20 @@ joined_by (q ∷ qs) ps = joined_by qs (cond (some (place_eq q) ps) ps (q ∷ ps
 -- with what the listed places of row k lead to
 abbrev pub spread : List Row → ℕ → List Place → List Place → List Place
 spread rows k [] ps = ps
-spread rows k (p ∷ qs) ps = spread rows k qs (cond (p.row == k) (joined_by (leads (slice_index_or rows p.row False) p.plus p.level) ps) ps)
+spread rows k (p ∷ qs) ps = spread rows k qs (cond (p.row == k) (joined_by (leads_of rows p) ps) ps)
 
 -- row after row down to row 0: children are earlier
 abbrev pub walk : List Row → ℕ → List Place → List Place
 walk rows zero ps = ps
 walk rows (suc k) ps = walk rows k (spread rows k ps ps)
 
--- the places reached from the last row with plus at level 0, each once
+-- the places reached from the rule's own, each once
 abbrev pub places_of : List Row → List Place
-places_of rows = walk rows (length rows) (record { row = length rows - 1; plus = true; level = 0 } ∷ [])
+places_of rows = walk rows (length rows) (last_of rows ∷ [])
 
 -- does the place take a name at the level
 abbrev pub counts_at : List Row → ℕ → Place → Bool
-counts_at rows l p = wants_name (slice_index_or rows p.row False) && p.level == l
+counts_at rows l p = takes_name (slice_index_or rows p.row False) && p.level == l
 
 -- the names that a rule takes at a level: one for each place that takes one, and the handle at level 0
 abbrev pub count_of_names : List Row → ℕ → ℕ

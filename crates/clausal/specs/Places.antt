@@ -4,13 +4,14 @@ use Rattle.lists.specs.Lists.{some, first_at, In}
 use Rattle.modal.specs.Rows.{built}
 use Rattle.modal.specs.declared.row.Row.{Row}
 use Rattle.modal.specs.declared.row.Row.TheVariants.{False, True, Letter, Not, And, Or, Box, Diamond}
+use Rattle.atoms.specs.Clauses.{positive}
 use Rattle.atoms.specs.declared.clauses.Literal.{Literal}
 use Rattle.clausal.specs.States.{State, rule_at}
 use Rattle.clausal.specs.declared.names.Name.{Name}
 use Rattle.clausal.specs.declared.names.Name.TheVariants.{Free as free, Place as place, Handle as handle}
 use Rattle.clausal.specs.declared.places.Place.{Place}
 
--- the places that a place leads to, by its row, its sign and its level
+-- the places that a row with a sign at a level leads to
 abbrev pub leads : Row → Bool → ℕ → List Place
 leads False s l = []
 leads True s l = []
@@ -21,26 +22,39 @@ leads (Or c e) s l = record { row = c; plus = s; level = l } ∷ record { row = 
 leads (Box c) s l = record { row = c; plus = s; level = suc l } ∷ []
 leads (Diamond c) s l = record { row = c; plus = s; level = suc l } ∷ []
 
--- reached from the last row with plus at level 0
+-- the places that a place of the rule leads to
+abbrev pub leads_of : List Row → Place → List Place
+leads_of rows p = leads (slice_index_or rows p.row False) p.plus p.level
+
+-- the place of the rule itself: its last row with plus at level 0
+abbrev pub last_of : List Row → Place
+last_of rows = record { row = length rows - 1; plus = true; level = 0 }
+
+-- the places of a rule: its own, and those that a reached place leads to
 pub data Reached (rows : List Row) : Place → Type 0 where
-  last : Reached rows (record { row = length rows - 1; plus = true; level = 0 })
-  next : {p q : Place} → Reached rows p → In q (leads (slice_index_or rows p.row False) p.plus p.level) → Reached rows q
+  last : Reached rows (last_of rows)
+  next : {p q : Place} → Reached rows p → In q (leads_of rows p) → Reached rows q
 
--- the literal of row k with a sign, over the names of the level's places and the literals of the earlier rows
+-- the literal that is always true, and the one that never is: atom 15 and its negation
+abbrev pub constant : Bool → Literal
+constant b = record { atom = 15; holds = b }
+
+-- the literal of row k with a sign; nm has the name of each row with a sign at this level, ls the literals of the rows before it
 abbrev pub literal_of : (ℕ → Bool → ℕ) → List (Bool → Literal) → ℕ → Row → Bool → Literal
-literal_of nm ls k False s = record { atom = 15; holds = not s }
-literal_of nm ls k True s = record { atom = 15; holds = s }
+literal_of nm ls k False s = constant (not s)
+literal_of nm ls k True s = constant s
 literal_of nm ls k (Letter a) s = record { atom = a; holds = s }
-literal_of nm ls k (Not c) s = slice_index_or ls c (λ t. record { atom = 15; holds = t }) (not s)
-literal_of nm ls k (And c e) s = record { atom = nm k s; holds = true }
-literal_of nm ls k (Or c e) s = record { atom = nm k s; holds = true }
-literal_of nm ls k (Box c) s = record { atom = nm k s; holds = true }
-literal_of nm ls k (Diamond c) s = record { atom = nm k s; holds = true }
+literal_of nm ls k (Not c) s = slice_index_or ls c constant (not s)
+literal_of nm ls k (And c e) s = positive (nm k s)
+literal_of nm ls k (Or c e) s = positive (nm k s)
+literal_of nm ls k (Box c) s = positive (nm k s)
+literal_of nm ls k (Diamond c) s = positive (nm k s)
 
--- the literal of each row with each sign
+-- the literal of each row at a level, by its sign
 abbrev pub literals_of : (ℕ → Bool → ℕ) → List Row → List (Bool → Literal)
 literals_of nm rows = built (λ ls. literal_of nm ls (length ls)) [] rows
 
+-- are the signs the same
 abbrev pub sign_eq : Bool → Bool → Bool
 sign_eq true b = b
 sign_eq false b = not b
@@ -55,9 +69,14 @@ is_place_of r k s (handle _) = false
 abbrev pub name_in : List Name → ℕ → ℕ → Bool → ℕ
 name_in xs r k s = cond (some (is_place_of r k s) xs) (16 + first_at (is_place_of r k s) xs) 0
 
+-- the name of row k of rule r with a sign at a level
 abbrev pub name_of : State → ℕ → ℕ → ℕ → Bool → ℕ
 name_of st l r k s = name_in (st.names l) r k s
 
 -- the literal of row k of rule r with a sign at a level
 abbrev pub lit : State → ℕ → ℕ → Bool → ℕ → Literal
-lit st r l s k = slice_index_or (literals_of (name_of st l r) (rule_at st r)) k (λ t. record { atom = 15; holds = t }) s
+lit st r l s k = slice_index_or (literals_of (name_of st l r) (rule_at st r)) k constant s
+
+-- the literal that a rule's handle implies: that of its own place
+abbrev pub rule_lit : State → ℕ → Literal
+rule_lit st r = lit st r 0 true (length (rule_at st r) - 1)

@@ -23,6 +23,10 @@ pub record State : Type 0 where
 abbrev pub rule_at : State → ℕ → List Row
 rule_at st r = slice_index_or st.rules r []
 
+-- what atom 16 + i of level l stands for
+abbrev pub name_at : State → ℕ → ℕ → Name
+name_at st l i = slice_index_or (st.names l) i Free
+
 -- a formula with a sign: minus denies it
 abbrev pub signed : Bool → Formula → Formula
 signed true f = f
@@ -36,7 +40,7 @@ reads_name st b ws w (Handle r) = meets (says (rule_at st r)) ws w
 
 -- how a world reads the atoms of a level: the letters as its own, atom 15 as true, the others as names, of which u says how the free ones are read
 abbrev pub at_world : State → ℕ → Valuation → List World → ℕ → Valuation
-at_world st l u ws w a = cond (nat_lt a 15) ((world ws w).letters a) (cond (a == 15) true (reads_name st (u a) ws w (slice_index_or (st.names l) (a - 16) Free)))
+at_world st l u ws w a = cond (nat_lt a 15) ((world ws w).letters a) (cond (a == 15) true (reads_name st (u a) ws w (name_at st l (a - 16))))
 
 -- the rules force the clause: it is true at every world of every model, however free names are read
 abbrev pub Forced : State → ℕ → Clause → Type 0

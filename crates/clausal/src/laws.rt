@@ -6,27 +6,29 @@ pub fn places_counted()
     ensures { PlacesCounted }
 {}
 
-/// A session that takes in one rule after another always holds the clausal form of its rules.
+/// A new session holds the clausal form of no rules, and one that takes in a rule still holds that of its rules.
 pub fn form_kept()
     ensures { FormKept }
 {}
 
-/// A level never needs more than 97 definitions.
+/// A level never needs more than 97 definitions: one, and at most two for each of 48 names.
 pub fn few_definitions()
     ensures { FewDefinitions }
 {}
 
-/// Each name read as its row with its sign, every definition is true at every world of every Kripke model.
+/// With each name read as its row with its sign, every definition is true at every world of every Kripke model.
 pub fn definitions_forced()
     ensures { DefinitionsForced }
 {}
 
-/// Each name read so, the literal of a box clause is true at every successor, that of a diamond clause at some.
+/// With names read so, where the name of a box clause is true its literal is true at every successor, and where that of a
+/// diamond clause is true, at some.
 pub fn modal_clauses_read()
     ensures { ModalClausesRead }
 {}
 
-/// The root of a complete tree meets the formula of every place whose literal its valuation obeys.
+/// A complete tree is a Kripke model. Its root meets the formula of every place whose literal its valuation obeys, and
+/// every rule whose handle is in.
 pub fn complete_meets()
     ensures { CompleteMeets }
 {}

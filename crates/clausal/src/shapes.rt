@@ -8,11 +8,13 @@ use modal::row::Row;
 pub enum Shape {
     /// A row that takes no name.
     Plain,
+    /// Both rows, with the sign.
     Both(u8, u8),
+    /// One of the two.
     Either(u8, u8),
-    /// At every successor.
+    /// The row at every successor.
     All(u8),
-    /// At some successor.
+    /// The row at some successor.
     One(u8),
 }
 

@@ -15,19 +15,15 @@ use std::time::Instant;
 
 const QUESTIONS: u32 = 20_000;
 
-// So many random entries of one mark, with `literals` literals each.
-#[derive(Clone, Copy)]
-struct Filling {
-    entries: usize,
-    literals: u8,
-}
-
-// A level with the entries, whose clauses and questions are over the lowest `atoms` atoms.
+// A level with so many random entries of each mark, so many literals in each; clauses and questions are over the lowest
+// `atoms` atoms.
 #[derive(Clone, Copy)]
 struct Measurement {
     atoms: u8,
-    definitions: Filling,
-    learnt: Filling,
+    definitions: usize,
+    definition_literals: u8,
+    learnt: usize,
+    learnt_literals: u8,
     ghost some: { 0 < atoms },
     ghost within: { atoms ≤ 64 },
 }
@@ -36,50 +32,34 @@ struct Measurement {
 const LARGE: [Measurement; 2] = [
     Measurement {
         atoms: 64,
-        definitions: Filling {
-            entries: DEFINITIONS,
-            literals: 3,
-        },
-        learnt: Filling {
-            entries: LEARNT,
-            literals: 3,
-        },
+        definitions: DEFINITIONS,
+        definition_literals: 3,
+        learnt: LEARNT,
+        learnt_literals: 3,
     },
     Measurement {
         atoms: 64,
-        definitions: Filling {
-            entries: DEFINITIONS,
-            literals: 3,
-        },
-        learnt: Filling {
-            entries: LEARNT,
-            literals: 2,
-        },
+        definitions: DEFINITIONS,
+        definition_literals: 3,
+        learnt: LEARNT,
+        learnt_literals: 2,
     },
 ];
 
 const SMALL: [Measurement; 2] = [
     Measurement {
         atoms: 10,
-        definitions: Filling {
-            entries: 20,
-            literals: 3,
-        },
-        learnt: Filling {
-            entries: 20,
-            literals: 3,
-        },
+        definitions: 20,
+        definition_literals: 3,
+        learnt: 20,
+        learnt_literals: 3,
     },
     Measurement {
         atoms: 10,
-        definitions: Filling {
-            entries: 60,
-            literals: 3,
-        },
-        learnt: Filling {
-            entries: 60,
-            literals: 3,
-        },
+        definitions: 60,
+        definition_literals: 3,
+        learnt: 60,
+        learnt_literals: 3,
     },
 ];
 
@@ -110,8 +90,8 @@ impl<O: Oracle + Drop> Timed<O> {
         }
     }
 
-    fn fill(&mut self, filling: Filling, mark: Mark, shape: Shape) -> Result<(), LevelFull> {
-        for _ in 0..filling.entries {
+    fn fill(&mut self, entries: usize, mark: Mark, shape: Shape) -> Result<(), LevelFull> {
+        for _ in 0..entries {
             let entry = shape.entry(&mut self.random, mark);
             self.oracle.take(Level::ROOT, entry)?;
         }
@@ -120,16 +100,12 @@ impl<O: Oracle + Drop> Timed<O> {
 
     // Fills the level anew, always with the same entries.
     fn prepare(&mut self, measurement: Measurement) -> Result<(), LevelFull> {
-        let Measurement {
-            definitions,
-            learnt,
-            ..
-        } = measurement;
         self.oracle.clear();
         self.random = Random::new(1);
-        let shape = measurement.shape(definitions.literals);
-        self.fill(definitions, Mark::Definition, shape)?;
-        self.fill(learnt, Mark::Learnt, measurement.shape(learnt.literals))
+        let shape = measurement.shape(measurement.definition_literals);
+        self.fill(measurement.definitions, Mark::Definition, shape)?;
+        let shape = measurement.shape(measurement.learnt_literals);
+        self.fill(measurement.learnt, Mark::Learnt, shape)
     }
 
     // Asks the questions, each under two random literals, and says how many were satisfiable.
@@ -149,15 +125,16 @@ impl<O: Oracle + Drop> Timed<O> {
         let Measurement {
             atoms,
             definitions,
+            definition_literals,
             learnt,
+            learnt_literals,
         } = measurement;
         let start = Instant::now(rt)?;
-        let found = self.ask(measurement.shape(definitions.literals));
+        let found = self.ask(measurement.shape(definition_literals));
         let micros = start.elapsed(rt)?.as_micros().max(1);
         let rate = u128::from(QUESTIONS) * 1_000_000 / micros;
         println!(rt;
-            "{name}, {atoms} atoms, {} + {} entries of {} and {} literals: {rate} questions a second, {found} of {QUESTIONS} satisfiable",
-            definitions.entries, learnt.entries, definitions.literals, learnt.literals,
+            "{name}, {atoms} atoms, {definitions} + {learnt} entries of {definition_literals} and {learnt_literals} literals: {rate} questions a second, {found} of {QUESTIONS} satisfiable"
         )
     }
 

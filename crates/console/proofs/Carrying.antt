@@ -1,5 +1,5 @@
 -- One piece carried out.
-use Rattle.std.proofs.Common.{◌≡◌, ℕ, zero, suc, ◌+◌, ◌-◌, ◌≤◌, List, [], ◌∷◌, ◌++◌, length, drop, Ok, Err, Result, subst, length-drop, length-take, arith}
+use Rattle.std.proofs.Common.{◌≡◌, ℕ, zero, suc, ◌+◌, ◌-◌, ◌≤◌, List, [], ◌∷◌, ◌++◌, length, drop, Ok, Err, subst, length-drop, length-take, arith}
 use Rattle.std.specs.List.{slice_index}
 use Rattle.std.proofs.lemmas.Bool.Decides.{nat_tests}
 use Rattle.modal.specs.Faults.{read_start}
@@ -10,12 +10,10 @@ use Rattle.modal.specs.declared.faults.RowStart.{RowStart}
 use Rattle.modal.specs.declared.faults.ReadFault.{ReadFault}
 use Rattle.clausal.specs.States.{State}
 use Rattle.law.specs.Calls.{add, question, Reply}
-use Rattle.law.specs.Runs.{Owes}
+use Rattle.law.specs.Runs.{CallLaw}
 use Rattle.session.specs.Replies.{numbers_of}
-use Rattle.console.specs.Pieces.{Within, TakesWithin}
-use Rattle.console.specs.Lines.{between, Tells}
-use Rattle.console.specs.Carrying.{Grows, offset_in}
-use Rattle.console.specs.declared.faults.ConsoleFault.{ConsoleFault}
+use Rattle.console.specs.Lines.{between, offset_of, Tells}
+use Rattle.console.specs.Carrying.{Within, CommandWithin, CarriedOut}
 use Rattle.console.specs.declared.faults.ConsoleFault.TheVariants as layer
 use Rattle.console.specs.declared.lines.Line.{Line}
 use Rattle.console.specs.declared.pieces.Command.TheVariants.{Add, Ask}
@@ -38,16 +36,16 @@ fault_in [] f e = grind (arith)
 fault_in (k ∷ bs) f e = omega (arith, fault_from 64 [] 0 (k ∷ bs) f e)
 
 -- the byte of a rule that cannot be read is not behind the command that adds it
-pub offset_read : (input : List ℕ) (p : Piece) (start : ℕ) (f : ReadFault) (r : Result Line ConsoleFault) → Within (length input) p → p.read ≡ Ok (Add start) → parsed (between start p.at input) ≡ Err f → r ≡ Err (layer.Rule f) → offset_in p r ≤ p.at
-offset_read input p start f r w is e told =
-    let (rows, _) : (start ≤ p.at) × (p.at ≤ length input) = subst (TakesWithin (length input) p.at) is w in
+pub offset_read : (input : List ℕ) (p : Piece) (start : ℕ) (f : ReadFault) → Within (length input) p → p.read ≡ Ok (Add start) → parsed (between start p.at input) ≡ Err f → offset_of p (layer.Rule f) ≤ p.at
+offset_read input p start f w is e =
+    let (rows, _) : (start ≤ p.at) × (p.at ≤ length input) = subst (CommandWithin (length input) p.at) is w in
     let inside = fault_in (between start p.at input) f e in
-    rw told (rw is (omega (arith, rows, inside, length-take (p.at - start) (drop start input))))
+    rw is (omega (arith, rows, inside, length-take (p.at - start) (drop start input)))
 
 -- a call that owes its reply, and the line of the reply
 module _ (input : List ℕ) (p : Piece) (before after : State) (r : Reply) (line : Line) (tells : Tells p.at r line) where
-  pub adds : (start : ℕ) (rows : List Row) → p.read ≡ Ok (Add start) → parsed (between start p.at input) ≡ Ok rows → Owes before (add rows) r after → Grows input before p line after
+  pub adds : (start : ℕ) (rows : List Row) → p.read ≡ Ok (Add start) → parsed (between start p.at input) ≡ Ok rows → CallLaw before (add rows) r after → CarriedOut input before p line after
   adds start rows is e owes = rw is (rw e (r, tells, owes))
 
-  pub asks : (rules : ℕ) → p.read ≡ Ok (Ask rules) → Owes before (question (numbers_of rules)) r after → Grows input before p line after
+  pub asks : (rules : ℕ) → p.read ≡ Ok (Ask rules) → CallLaw before (question (numbers_of rules)) r after → CarriedOut input before p line after
   asks rules is owes = rw is (r, tells, owes)

@@ -3,7 +3,7 @@ use Rattle.std.proofs.Common.{◌≡◌, ℕ, zero, suc, ◌+◌, ◌-◌, ◌�
 use Rattle.std.proofs.lemmas.Grind.{common_steps}
 use Rattle.std.proofs.lemmas.Bool.Decides.{nat_tests}
 use Rattle.console.specs.Pieces.{piece, ended, pieces_from, pieces_of}
-use Rattle.console.specs.Splitting.{placed, Front, Unread, Found}
+use Rattle.console.specs.Splitting.{piece_placed, CommandFront, CommandUnread, Found}
 use Rattle.console.specs.declared.faults.InputFault.{InputFault}
 use Rattle.console.specs.declared.pieces.Command.{Command}
 use Rattle.console.specs.declared.pieces.Piece.{Piece}
@@ -16,34 +16,34 @@ passed (suc n) start at (b ∷ bs) h = grind (arith, common_steps, passed n star
 
 -- at the byte `at` there is the kind k, and bs are the bytes after that
 module _ (start at k : ℕ) (bs : List ℕ) where
-  stops : (f : InputFault) → Unread k bs f → pieces_from 0 start at (k ∷ bs) ≡ piece at (Err f) ∷ []
+  stops : (f : InputFault) → CommandUnread k bs f → pieces_from 0 start at (k ∷ bs) ≡ piece at (Err f) ∷ []
   stops f u = grind (arith, nat_tests)
 
   module _ (rest : List ℕ) (next : ℕ) (n : next ≡ at + 1 + (length bs - length rest)) where
-    row_passed : Front start k bs None rest → pieces_from 0 start at (k ∷ bs) ≡ pieces_from 0 start next rest
+    row_passed : CommandFront start k bs None rest → pieces_from 0 start at (k ∷ bs) ≡ pieces_from 0 start next rest
     row_passed s = grind (arith, common_steps, nat_tests, passed)
 
-    command_passed : (c : Command) → Front start k bs (Some c) rest → pieces_from 0 start at (k ∷ bs) ≡ placed start at c ∷ pieces_from 0 next next rest
+    command_passed : (c : Command) → CommandFront start k bs (Some c) rest → pieces_from 0 start at (k ∷ bs) ≡ piece_placed start at c ∷ pieces_from 0 next next rest
     command_passed c s = grind (arith, common_steps, nat_tests, passed)
 
-left : (start k : ℕ) (bs rest : List ℕ) (c : Option Command) → Front start k bs c rest → length rest ≤ length bs
+left : (start k : ℕ) (bs rest : List ℕ) (c : Option Command) → CommandFront start k bs c rest → length rest ≤ length bs
 left start k bs rest c s = grind (arith, common_steps)
 
 -- and so the loop goes on
 module _ (input : List ℕ) (found : List Piece) (start k : ℕ) (bs : List ℕ) (so_far : Found input found start (k ∷ bs)) where
-  pub stopped : (f : InputFault) → Unread k bs f → pieces_of input ≡ found ++ piece (length input - length (k ∷ bs)) (Err f) ∷ []
+  pub stopped : (f : InputFault) → CommandUnread k bs f → pieces_of input ≡ found ++ piece (length input - length (k ∷ bs)) (Err f) ∷ []
   stopped f u = so_far.whole ∙ ap (λ (ps : List Piece). found ++ ps) (stops start (length input - length (k ∷ bs)) k bs f u)
 
   module _ (rest : List ℕ) where
-    pub row_found : (c : Option Command) → Front start k bs c rest → c ≡ None → Found input found start rest
+    pub row_found : (c : Option Command) → CommandFront start k bs c rest → c ≡ None → Found input found start rest
     row_found c s none =
         let less = left start k bs rest c s in
         record {
           shorter = omega (arith, less, so_far.shorter);
-          whole = so_far.whole ∙ ap (λ (ps : List Piece). found ++ ps) (row_passed start (length input - length (k ∷ bs)) k bs rest (length input - length rest) (omega (arith, less, so_far.shorter)) (subst (λ (d : Option Command). Front start k bs d rest) none s));
+          whole = so_far.whole ∙ ap (λ (ps : List Piece). found ++ ps) (row_passed start (length input - length (k ∷ bs)) k bs rest (length input - length rest) (omega (arith, less, so_far.shorter)) (subst (λ (d : Option Command). CommandFront start k bs d rest) none s));
         }
 
-    pub command_found : (c : Command) → Front start k bs (Some c) rest → Found input (found ++ placed start (length input - length (k ∷ bs)) c ∷ []) (length input - length rest) rest
+    pub command_found : (c : Command) → CommandFront start k bs (Some c) rest → Found input (found ++ piece_placed start (length input - length (k ∷ bs)) c ∷ []) (length input - length rest) rest
     command_found c s =
         let less = left start k bs rest (Some c) s in
         record {

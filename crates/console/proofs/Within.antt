@@ -2,7 +2,8 @@
 use Rattle.std.proofs.Common.{ℕ, zero, suc, ◌+◌, ◌≤◌, Bool, true, false, cond, Ok, Err, List, [], ◌∷◌, length, ◌==◌, nat_lt, arith}
 use Rattle.std.proofs.lemmas.List.Elements.{All-nil, All-cons, All-append}
 use Rattle.std.specs.List.{All}
-use Rattle.console.specs.Pieces.{piece, body_size, said, start_after, pieces_from, pieces_of, Within, TakesWithin}
+use Rattle.console.specs.Pieces.{piece, body_size, said, start_after, pieces_from, pieces_of}
+use Rattle.console.specs.Carrying.{Within, CommandWithin}
 use Rattle.console.specs.declared.faults.InputFault.{InputFault}
 use Rattle.console.specs.declared.faults.InputFault.TheVariants.{NotEnded, TooLong, UnknownKind, CutOff}
 use Rattle.console.specs.declared.pieces.Command.{Command}
@@ -20,7 +21,7 @@ module _ (whole : ℕ) where
   refused : (at : ℕ) (f : InputFault) → All (λ (p : Piece). Within whole p) (piece at (Err f) ∷ [])
   refused at f = one (λ (p : Piece). Within whole p) (piece at (Err f)) tt
 
-  asked : (at : ℕ) (b : Bool) (c : Command) → TakesWithin whole at (Ok c) → All (λ (p : Piece). Within whole p) (piece at (cond b (Ok c) (Err NotEnded)) ∷ [])
+  asked : (at : ℕ) (b : Bool) (c : Command) → CommandWithin whole at (Ok c) → All (λ (p : Piece). Within whole p) (piece at (cond b (Ok c) (Err NotEnded)) ∷ [])
   asked at true c h = one (λ (p : Piece). Within whole p) _ h
   asked at false c h = one (λ (p : Piece). Within whole p) _ tt
 

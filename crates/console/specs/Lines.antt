@@ -6,7 +6,7 @@ use Rattle.modal.specs.declared.faults.ReadFault.{ReadFault}
 use Rattle.modal.specs.declared.row.Row.{Row}
 use Rattle.clausal.specs.States.{State}
 use Rattle.law.specs.Calls.{Call, add, question, forget, Reply, added, opened, closed, forgotten, refused}
-use Rattle.law.specs.Runs.{History, Led, calls_of, AgreeAll}
+use Rattle.law.specs.Runs.{History, LeadsTo, NeverContradicted}
 use Rattle.law.specs.Verdicts.{Sound}
 use Rattle.session.specs.Replies.{numbers_of}
 use Rattle.console.specs.Faults.{console_refusal}
@@ -20,35 +20,25 @@ use Rattle.console.specs.declared.pieces.Command.{Command}
 use Rattle.console.specs.declared.pieces.Command.TheVariants.{Add, Ask, Forget}
 use Rattle.console.specs.declared.pieces.Piece.{Piece}
 
--- the bytes from one up to another
+-- the bytes from the byte `start` up to the byte `end`
 abbrev pub between : ℕ → ℕ → List ℕ → List ℕ
 between start end bytes = take (end - start) (drop start bytes)
 
-abbrev pub call_of_rule : Result (List Row) ReadFault → Result Call ConsoleFault
-call_of_rule (Ok rows) = Ok (add rows)
-call_of_rule (Err fault) = Err (layer.Rule fault)
+-- adding the rows, or why there are none to add
+abbrev pub rule_call : Result (List Row) ReadFault → Result Call ConsoleFault
+rule_call (Ok rows) = Ok (add rows)
+rule_call (Err fault) = Err (layer.Rule fault)
 
-abbrev pub call_of_read : List ℕ → ℕ → Result Command InputFault → Result Call ConsoleFault
-call_of_read input at (Ok (Add start)) = call_of_rule (parsed (between start at input))
-call_of_read input at (Ok (Ask rules)) = Ok (question (numbers_of rules))
-call_of_read input at (Ok Forget) = Ok forget
-call_of_read input at (Err fault) = Err (layer.Input fault)
+-- the call of a command at a byte: adding takes the rows of the bytes before it, a question the rules of its set
+abbrev pub command_call : List ℕ → ℕ → Result Command InputFault → Result Call ConsoleFault
+command_call input at (Ok (Add start)) = rule_call (parsed (between start at input))
+command_call input at (Ok (Ask rules)) = Ok (question (numbers_of rules))
+command_call input at (Ok Forget) = Ok forget
+command_call input at (Err fault) = Err (layer.Input fault)
 
 -- the call that a piece makes, or why it makes none
-abbrev pub call_of : List ℕ → Piece → Result Call ConsoleFault
-call_of input p = call_of_read input p.at p.read
-
-abbrev pub with_call : Result Call ConsoleFault → List Call → List Call
-with_call (Ok c) cs = c ∷ cs
-with_call (Err fault) cs = cs
-
-abbrev pub calls_after : List Call → List ℕ → List Piece → List Call
-calls_after cs input [] = cs
-calls_after cs input (p ∷ ps) = calls_after (with_call (call_of input p) cs) input ps
-
--- the calls that pieces make, the latest first: a function of the input alone
-abbrev pub calls_in : List ℕ → List Piece → List Call
-calls_in = calls_after []
+abbrev pub piece_call : List ℕ → Piece → Result Call ConsoleFault
+piece_call input p = command_call input p.at p.read
 
 -- where the faulty row of a rule begins, which stands behind the byte where the rows do
 abbrev pub row_byte : ℕ → Result Command InputFault → ReadFault → ℕ
@@ -80,18 +70,21 @@ Tells at (refused number detail) line = line ≡ Refused number at detail
 pub data Carried (input : List ℕ) : List Piece → List Line → History → Type 0 where
   none : Carried input [] [] []
   -- a piece that makes a call has the line of the reply
-  called : {ps : List Piece} {ls : List Line} {h : History} (p : Piece) (c : Call) (r : Reply) (line : Line) → Carried input ps ls h → call_of input p ≡ Ok c → Tells p.at r line → Carried input (ps ++ p ∷ []) (ls ++ line ∷ []) ((c, r) ∷ h)
+  called : {ps : List Piece} {ls : List Line} {h : History} (p : Piece) (c : Call) (r : Reply) (line : Line) → Carried input ps ls h → piece_call input p ≡ Ok c → Tells p.at r line → Carried input (ps ++ p ∷ []) (ls ++ line ∷ []) ((c, r) ∷ h)
   -- any other has the line of its fault
-  faulty : {ps : List Piece} {ls : List Line} {h : History} (p : Piece) (fault : ConsoleFault) → Carried input ps ls h → call_of input p ≡ Err fault → Carried input (ps ++ p ∷ []) (ls ++ refusal_line p fault ∷ []) h
+  faulty : {ps : List Piece} {ls : List Line} {h : History} (p : Piece) (fault : ConsoleFault) → Carried input ps ls h → piece_call input p ≡ Err fault → Carried input (ps ++ p ∷ []) (ls ++ refusal_line p fault ∷ []) h
 
--- Each piece has its line; the calls made with their replies lead from a new session to a sound one, and they contradict those of no other history of the same calls, over whatever oracle.
-pub record Says (input : List ℕ) (lines : List Line) : Type 0 where
+-- The lines of an input: there are calls with their replies, of which
+pub record LinesOf (input : List ℕ) (lines : List Line) : Type 0 where
   pub history : History
+  -- each piece of the input has its line
   pub carried : Carried input (pieces_of input) lines history
+  -- they lead from a new session to this one, which is sound
   pub left : State
-  pub led : Led history left
+  pub led : LeadsTo history left
   pub sound : Sound left
-  pub agrees : (k : History) (t : State) → Led k t → calls_of k ≡ calls_of history → AgreeAll history k
+  -- no replies to the same calls, over whatever oracle, contradict them
+  pub agrees : NeverContradicted history
 
 -- what is printed of a line
 abbrev pub line_text : Line → List ℕ

@@ -1,5 +1,5 @@
 -- How an input falls into commands: row after row, and the commands between them.
-use Rattle.std.specs.Prelude.{ℕ, zero, suc, ◌+◌, ◌*◌, ◌≤◌, List, [], ◌∷◌, ◌++◌, cond, length, Ok, Err, Result, ◌==◌, nat_lt, slice_index}
+use Rattle.std.specs.Prelude.{ℕ, zero, suc, ◌+◌, ◌*◌, List, [], ◌∷◌, ◌++◌, cond, length, Ok, Err, Result, ◌==◌, nat_lt, slice_index}
 use Rattle.modal.specs.Format.{body_length}
 use Rattle.console.specs.declared.faults.InputFault.{InputFault}
 use Rattle.console.specs.declared.faults.InputFault.TheVariants.{UnknownKind, CutOff, NotEnded, TooLong}
@@ -47,13 +47,3 @@ pieces_from (suc n) start at (b ∷ bs) = pieces_from n start (at + 1) bs
 -- the pieces of an input of at most 65,536 bytes; a longer one is refused whole
 abbrev pub pieces_of : List ℕ → List Piece
 pieces_of input = cond (nat_lt 65536 (length input)) (piece 65536 (Err TooLong) ∷ []) (pieces_from 0 0 0 input)
-
--- what adding takes stands before it, and both within the input of n bytes
-abbrev pub TakesWithin : ℕ → ℕ → Result Command InputFault → Type 0
-TakesWithin n at (Ok (Add start)) = (start ≤ at) × (at ≤ n)
-TakesWithin n at (Ok (Ask set)) = Unit {0}
-TakesWithin n at (Ok Forget) = Unit {0}
-TakesWithin n at (Err fault) = Unit {0}
-
-abbrev pub Within : ℕ → Piece → Type 0
-Within n p = TakesWithin n p.at p.read

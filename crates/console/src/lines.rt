@@ -1,9 +1,8 @@
 // What each command of an input says.
-ghost use Rattle.std.specs.Prelude.{◌≡◌, ◌<◌, ◌≤◌, ◌^◌, length, IfOk, Some};
+ghost use Rattle.std.specs.Prelude.{◌≡◌, ◌<◌, ◌≤◌, ◌^◌, length, IfOk, IfErr, Some};
 ghost use Rattle.session.specs.View.{view};
-ghost use Rattle.console.specs.Carrying.{Grows, told, offset_in};
-ghost use Rattle.console.specs.Pieces.{Within};
-ghost use Rattle.console.specs.Lines.{refusal_line, offset_of, line_text, Says};
+ghost use Rattle.console.specs.Carrying.{Within, CarriedOut, answer_line};
+ghost use Rattle.console.specs.Lines.{refusal_line, offset_of, line_text, LinesOf};
 
 use crate::faults::ConsoleFault;
 use crate::pieces::{Command, Piece, pieces};
@@ -58,8 +57,8 @@ fn carry_out<O: Oracle>(
     piece: Piece,
 ) -> Result<Line, ConsoleFault>
     requires { Within (length input.now) piece }
-    ensures grows { Grows input.now (view O.Oracle.entries session.old) piece (told piece result) (view O.Oracle.entries session.new) }
-    ensures offset { offset_in piece result ≤ piece.at }
+    ensures done { CarriedOut input.now (view O.Oracle.entries session.old) piece (answer_line piece result) (view O.Oracle.entries session.new) }
+    ensures offset { IfErr result (λ fault. offset_of piece fault ≤ piece.at) }
 {
     match piece.read? {
         Command::Add { start } => {
@@ -106,7 +105,7 @@ impl Piece {
 // Carries out a piece on the session, and says what came of it.
 fn answer<O: Oracle>(session: &mut Session<O>, input: &[u8], piece: Piece) -> Line
     requires { Within (length input.now) piece }
-    ensures { Grows input.now (view O.Oracle.entries session.old) piece result (view O.Oracle.entries session.new) }
+    ensures { CarriedOut input.now (view O.Oracle.entries session.old) piece result (view O.Oracle.entries session.new) }
 {
     match carry_out(session, input, piece) {
         Ok(line) => line,
@@ -120,7 +119,7 @@ pub fn lines_over<O: Oracle + Drop>(
     oracle: O,
     input: &[u8],
 ) -> Result<Vec<Line>, AllocError>
-    ensures { IfOk result (λ lines. Says input.now lines.items) }
+    ensures { IfOk result (λ lines. LinesOf input.now lines.items) }
 {
     let pieces = pieces(heap, input)?;
     let mut session = Session::new(oracle);
@@ -133,7 +132,7 @@ pub fn lines_over<O: Oracle + Drop>(
 
 /// Carries out the commands of the input on a new session over the oracle that searches, and answers their lines.
 pub fn lines(heap: Global, input: &[u8]) -> Result<Vec<Line>, AllocError>
-    ensures { IfOk result (λ lines. Says input.now lines.items) }
+    ensures { IfOk result (λ lines. LinesOf input.now lines.items) }
 {
     lines_over(heap, Searcher::new(), input)
 }

@@ -1,9 +1,10 @@
 // How an input falls into commands.
-ghost use Rattle.std.specs.Prelude.{◌≡◌, ◌≤◌, IfOk, MatchResult};
-ghost use Rattle.console.specs.Pieces.{pieces_of};
-ghost use Rattle.console.specs.Splitting.{Front, Unread, placed};
+ghost use Rattle.std.specs.Prelude.{◌≡◌, ◌≤◌, Err, IfOk, MatchResult};
+ghost use Rattle.console.specs.Pieces.{piece, pieces_of};
+ghost use Rattle.console.specs.Splitting.{CommandFront, CommandUnread, piece_placed};
 
 use crate::faults::InputFault;
+use modal::kind::Kind;
 use std::alloc::{AllocError, Global};
 
 // An input has at most this many bytes.
@@ -28,32 +29,45 @@ pub struct Piece {
 
 // The command of a kind and the bytes after it, with none for a row, and the bytes behind its body.
 fn split(kind: u8, start: usize, bytes: &[u8]) -> Result<(Option<Command>, &[u8]), InputFault>
-    ensures { MatchResult result (λ found. Front start kind bytes.now found.0 found.1.now) (λ fault. Unread kind bytes.now fault) }
+    ensures { MatchResult result (λ found. CommandFront start kind bytes.now found.0 found.1.now) (λ fault. CommandUnread kind bytes.now fault) }
 {
     match (kind, bytes) {
-        (0 | 1, rest) => Ok((None, rest)),
-        (2 | 3 | 6 | 7, [_, rest @ ..]) => Ok((None, rest)),
-        (4 | 5, [_, _, rest @ ..]) => Ok((None, rest)),
         (8, rest) => Ok((Some(Command::Add { start }), rest)),
         (9, [low, high, rest @ ..]) => {
             let set = u16::from(*low) + 256 * u16::from(*high);
             Ok((Some(Command::Ask(set)), rest))
         }
+        (9, _) => Err(InputFault::CutOff),
         (10, rest) => Ok((Some(Command::Forget), rest)),
-        (0..=9, _) => Err(InputFault::CutOff),
-        _ => Err(InputFault::UnknownKind),
+        _ => {
+            let row = Kind::try_from(kind).map_err(|_| InputFault::UnknownKind)?;
+            let rest = bytes.get(row.body_len()..).ok_or(InputFault::CutOff)?;
+            Ok((None, rest))
+        }
+    }
+}
+
+// What is wrong, in the place of a command.
+fn refused(at: usize, fault: InputFault) -> Piece
+    ensures { result ≡ piece at (Err fault) }
+{
+    Piece {
+        at,
+        read: Err(fault),
     }
 }
 
 // The piece of a command at a byte. Only adding may stand after rows.
 fn place(command: Command, start: usize, at: usize) -> Piece
-    ensures { result ≡ placed start at command }
+    ensures { result ≡ piece_placed start at command }
 {
-    let read = match command {
-        Command::Ask(_) | Command::Forget if start != at => Err(InputFault::NotEnded),
-        _ => Ok(command),
-    };
-    Piece { at, read }
+    match command {
+        Command::Ask(_) | Command::Forget if start != at => refused(at, InputFault::NotEnded),
+        _ => Piece {
+            at,
+            read: Ok(command),
+        },
+    }
 }
 
 /// The commands of the input, and what is wrong between them.
@@ -63,8 +77,7 @@ pub fn pieces(heap: Global, input: &[u8]) -> Result<Vec<Piece>, AllocError>
 {
     let mut found = Vec::new(heap);
     if input.len() > LONGEST {
-        let read = Err(InputFault::TooLong);
-        found.push(Piece { at: LONGEST, read })?;
+        found.push(refused(LONGEST, InputFault::TooLong))?;
         return Ok(found);
     }
     let mut start = 0;
@@ -79,18 +92,13 @@ pub fn pieces(heap: Global, input: &[u8]) -> Result<Vec<Piece>, AllocError>
                 start = input.len() - rest.len();
             }
             Err(fault) => {
-                let read = Err(fault);
-                found.push(Piece { at, read })?;
+                found.push(refused(at, fault))?;
                 return Ok(found);
             }
         }
     }
     if start != input.len() {
-        let read = Err(InputFault::NotEnded);
-        found.push(Piece {
-            at: input.len(),
-            read,
-        })?;
+        found.push(refused(input.len(), InputFault::NotEnded))?;
     }
     Ok(found)
 }

@@ -78,8 +78,8 @@ mod tests {
         Ok(input.push(8)?)
     }
 
-    // Diamond false, and box r or box not r for eight letters r, a rule each: each dead end is learnt, and there are more
-    // than 128.
+    // Diamond false, and box r or box not r for eight letters r, a rule each: a clause is learnt for each choice, and there
+    // are more than 128.
     fn eight_choices(input: &mut Vec<u8>) -> Result<(), Fail> {
         input.extend_from_slice(&[0, 7, 0, 8])?;
         for r in 0..8u8 {

@@ -1,8 +1,8 @@
 // One set of rules after another, asked of two sessions and of the second solver.
-use crate::rule_set::RuleSet;
 use crate::tally::Tally;
 use plain::Plain;
 use random::Random;
+use rule_sets::RuleSet;
 use search::Searcher;
 use session::faults::QuestionFault;
 use session::session::Session;
@@ -21,6 +21,7 @@ struct Question<'a> {
     set: &'a RuleSet,
     asked: u16,
     met: bool,
+    heap: Global,
 }
 
 fn drawn(sheet: &[SheetRow]) -> usize {
@@ -33,7 +34,7 @@ impl Question<'_> {
         if count > sheet.len() as u64 {
             return Ok(drawn(sheet) == 0);
         }
-        for rule in self.set.asked(self.asked)? {
+        for rule in self.set.asked(self.asked, self.heap)? {
             if truth(sheet, &rule) != Ok(true) {
                 return Ok(false);
             }
@@ -43,7 +44,7 @@ impl Question<'_> {
 
     // Whether the rules of the core are some of those asked, and cannot be met.
     fn is_core(&self, core: u16) -> anyhow::Result<bool> {
-        Ok(core & !self.asked == 0 && !satisfiable(&self.set.asked(core)?))
+        Ok(core & !self.asked == 0 && !satisfiable(&self.set.asked(core, self.heap)?))
     }
 
     fn is_right(
@@ -65,6 +66,7 @@ impl Question<'_> {
 pub(crate) struct Comparison {
     tally: Tally,
     sheet: Vec<SheetRow>,
+    heap: Global,
 }
 
 impl Comparison {
@@ -72,6 +74,7 @@ impl Comparison {
         Ok(Comparison {
             tally: Tally::default(),
             sheet: vec![in heap; SheetRow::BLANK; ROOM]?,
+            heap,
         })
     }
 
@@ -91,8 +94,14 @@ impl Comparison {
         search: &mut Session<Searcher>,
         plain: &mut Session<Plain>,
     ) -> anyhow::Result<()> {
-        let met = satisfiable(&set.asked(asked)?);
-        let question = Question { set, asked, met };
+        let heap = self.heap;
+        let met = satisfiable(&set.asked(asked, heap)?);
+        let question = Question {
+            set,
+            asked,
+            met,
+            heap,
+        };
         self.tally.questions = self.tally.questions.saturating_add(1);
         self.tally.met = self.tally.met.saturating_add(u32::from(met));
         let answer = search.question(asked, &mut self.sheet);
@@ -108,8 +117,10 @@ impl Comparison {
 
     /// Asks for all rules of the set, for all but one, and for all again after forgetting.
     pub(crate) fn compare(&mut self, set: RuleSet, random: &mut Random) -> anyhow::Result<()> {
-        let mut search = set.session(Searcher::new())?;
-        let mut plain = set.session(Plain::new())?;
+        let mut search = Session::new(Searcher::new());
+        set.add_to(&mut search)?;
+        let mut plain = Session::new(Plain::new());
+        set.add_to(&mut plain)?;
         self.tally.rules = self.tally.rules.saturating_add(set.len());
         let left_out = 1_u16.checked_shl(u32::from(random.below(8))).unwrap_or(0);
         self.ask(&set, set.all(), &mut search, &mut plain)?;

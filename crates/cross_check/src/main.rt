@@ -4,12 +4,13 @@
 #![tactic(auto)]
 
 mod comparing;
-mod rule_set;
 mod tally;
 
 use comparing::Comparison;
 use random::Random;
-use rule_set::RuleSet;
+use random_rules::{Shape, draw_all};
+use rule_sets::RuleSet;
+use std::alloc::{AllocError, Global};
 use std::env;
 use std::process::ExitCode;
 
@@ -50,11 +51,21 @@ fn ordered(rt: &HostRuntime) -> anyhow::Result<Option<Order>> {
     })
 }
 
+// Four to nine random rules over one to three letters.
+fn draw(random: &mut Random, heap: Global) -> Result<RuleSet, AllocError> {
+    let letters = 1 + random.below(3);
+    let depth = 1 + random.below(3);
+    // more rules over more letters, so that about as many sets can be met as not
+    let count = 3 + letters + random.below(4);
+    let rules = draw_all(random, Shape { letters, depth }, count, heap)?;
+    Ok(RuleSet::new(rules))
+}
+
 fn compare(rt: &HostRuntime, order: Order) -> anyhow::Result<()> {
     let mut random = Random::new(order.seed);
     let mut comparison = Comparison::new(rt.alloc())?;
     for _ in 0..order.sets {
-        let set = RuleSet::draw(&mut random, rt.alloc())?;
+        let set = draw(&mut random, rt.alloc())?;
         comparison.compare(set, &mut random)?;
     }
     println!(rt; "seed {}: {}", order.seed, comparison.tally())?;
@@ -64,7 +75,7 @@ fn compare(rt: &HostRuntime, order: Order) -> anyhow::Result<()> {
 fn list(rt: &HostRuntime, order: Order) -> anyhow::Result<()> {
     let mut random = Random::new(order.seed);
     for _ in 0..order.sets {
-        let set = RuleSet::draw(&mut random, rt.alloc())?;
+        let set = draw(&mut random, rt.alloc())?;
         println!(rt; "{}{set}", set.verdict()?)?;
     }
     Ok(())

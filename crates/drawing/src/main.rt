@@ -12,7 +12,8 @@ use std::process::ExitCode;
 const USAGE: &str = "usage: drawing < PAGE
 Says whether the root of a drawn tree meets a rule, both on the page. The first line
 has the bytes of the rule in hexadecimal; each further line is a world: the number of
-its parent, its level, and its letters. # begins a comment.";
+its parent, its level, and its letters. # begins a comment. A page that is refused
+prints why, and the status is 1.";
 
 fn input(rt: &HostRuntime) -> anyhow::Result<Vec<u8>> {
     let mut text = Vec::new(rt.alloc());

@@ -13,32 +13,34 @@ use Rattle.clausal.specs.States.{State, fired, literals}
 use Rattle.clausal.specs.Trees.{none}
 use Rattle.clausal.specs.declared.modal_clauses.ModalClause.{ModalClause}
 use Rattle.engine.specs.Pending.{NextIs}
-use Rattle.engine.specs.Steps.{fresh, valued, turned, drawn_at}
-use Rattle.engine.specs.Weights.{frame_at}
-use Rattle.engine.specs.Worlds.{Says, Shows, Trial, World, own_rows, rows_of, Visits, Above, Seeks, Descends, Settles}
+use Rattle.engine.specs.Steps.{fresh, valued, staged, drawn_at}
+use Rattle.engine.specs.Worlds.{Shows, Trial, World, own_rows, world_rows, Visits, Above, Seeks, Descends, Settles, frame_at}
 use Rattle.engine.specs.declared.frames.Frame.{Frame}
 use Rattle.engine.specs.declared.frames.Stage.TheVariants.{Settled}
-use Rattle.engine.proofs.Worlding.{SameBelow, above_same, world_turned, says_all, obeys_said, shows_more, Next, next_pending, none_left}
-use Rattle.firing.specs.Firing.{Stands, Names}
+use Rattle.engine.proofs.Sheets.{shows_more}
+use Rattle.engine.proofs.NextVisit.{next_pending, Next, none_left}
+use Rattle.engine.proofs.Worlding.{SameBelow, above_same, world_turned, assumed_obeyed}
+use Rattle.firing.proofs.Gathering.{literal_from}
+use Rattle.firing.specs.Firing.{AssumesJust, NamesOf}
 use Rattle.oracle.specs.Oracles.{Lists, Satisfies}
 use Rattle.sheet.specs.declared.row.SheetRow.{SheetRow}
 
-pub seeks_on : (st : State) (es : Lists) (fs gs : List Frame) (xs : List Literal) (sheet : List SheetRow) (l count : ℕ) (v left : AtomSet) → Seeks st es fs xs sheet l count → SameBelow l fs gs → frame_at gs l ≡ valued (frame_at fs l) v left → Satisfies (es l) (frame_at fs l).under (has v) → Names left (fired (has v) (st.diamonds l)) → Descends st es gs xs (drawn_at sheet (frame_at fs l).row (frame_at fs l).parent l (letters_of (has v))) l count
-seeks_on st es fs gs xs sheet l count v left k same is sat names =
-    let f : Frame = valued (frame_at fs l) v left in
+pub seeks_on : (st : State) (es : Lists) (fs gs : List Frame) (xs : List Literal) (sheet : List SheetRow) (l count : ℕ) (v unvisited : AtomSet) → Seeks st es fs xs sheet l count → SameBelow l fs gs → frame_at gs l ≡ valued (frame_at fs l) v unvisited → Satisfies (es l) (frame_at fs l).under (has v) → NamesOf unvisited (fired (has v) (st.diamonds l)) → Descends st es gs xs (drawn_at sheet (frame_at fs l).row (frame_at fs l).parent l (letters_of (has v))) l count
+seeks_on st es fs gs xs sheet l count v unvisited k same is sat names =
+    let f : Frame = valued (frame_at fs l) v unvisited in
     let sheet' : List SheetRow = drawn_at sheet f.row f.parent l (letters_of (has v)) in
     let w : World st es l k.trial f (fired (has v) (st.diamonds l)) = record {
       row = k.row;
       parent = k.parent;
-      says = k.says;
-      obeyed = obeys_said (has v) k.says sat.obeyed;
+      assumed = k.assumed;
+      obeyed = assumed_obeyed (has v) k.trial.small k.assumed sat.obeyed;
       made = sat.made;
       done = [];
       split = refl;
       trees = none;
       whole = refl;
     } in
-    let D : Frame → Type 0 = λ g. (w : World st es l k.trial g (fired (has v) (st.diamonds l))) × Names g.left (fired (has v) (st.diamonds l)) × (count ≡ length (rows_of w)) × Shows sheet' (rows_of w) in
+    let D : Frame → Type 0 = λ g. (w : World st es l k.trial g (fired (has v) (st.diamonds l))) × NamesOf g.unvisited (fired (has v) (st.diamonds l)) × (count ≡ length (world_rows w)) × Shows sheet' (world_rows w) in
     let n = length-append k.trial.rows (own_rows f l none) in
     let c = k.counted in
     let d : D (frame_at gs l) = subst D (sym is) (w, names, omega arith, shows_more sheet k.trial.rows _ f.row k.row k.shows) in
@@ -47,31 +49,26 @@ seeks_on st es fs gs xs sheet l count v left k same is sat names =
       above = above_same st es es fs gs xs l same (λ _ _. refl) k.trial k.above;
       rest = fired (has v) (st.diamonds l);
       world = d.0;
-      left = d.1;
+      unvisited = d.1;
       counted = d.2;
       shows = d.3;
     }
 
-literals_in : (ms : List ModalClause) {x : Literal} → In x (literals ms) → (m : ModalClause) × In m ms × (m.literal ≡ x)
-literals_in [] i = elim i [ ]
-literals_in (m ∷ ms) here = (m, here, refl)
-literals_in (m ∷ ms) (there i) = let (b, j, e) = literals_in ms i in (b, there j, e)
-
 part_small : (v : Valuation) (bs : List ModalClause) (m : ModalClause) → m.literal.atom < 64 → ((b : ModalClause) → In b bs → (b.name < 64) × (b.literal.atom < 64)) → (x : Literal) → In x (m.literal ∷ literals (fired v bs)) → x.atom < 64
 part_small v bs m h small x here = h
 part_small v bs m h small x (there i) =
-    let (b, j, e) = literals_in (fired v bs) i in
+    let (b, j, e) = literal_from (fired v bs) i in
     subst (λ (y : Literal). y.atom < 64) e (small b (kept_in (λ c. v c.name) bs j).0).1
 
-pub descends_on : (st : State) (es : Lists) (fs gs : List Frame) (xs : List Literal) (sheet : List SheetRow) (l count : ℕ) (left : AtomSet) (m : ModalClause) (under : Assumptions) → Descends st es fs xs sheet l count → Orderly l (st.boxes l) → Orderly l (st.diamonds l) → NextIs (st.diamonds l) (frame_at fs l).left m → ((i : ℕ) → has left i ≡ has (frame_at fs l).left i && not (eqb m.name i)) → Stands under (part_of st l (has (frame_at fs l).valuation) m) → SameBelow l fs gs → frame_at gs l ≡ turned (frame_at fs l) (frame_at fs l).stage left m → frame_at gs (suc l) ≡ fresh under (frame_at fs l).row count → Seeks st es gs xs sheet (suc l) (suc count)
+pub descends_on : (st : State) (es : Lists) (fs gs : List Frame) (xs : List Literal) (sheet : List SheetRow) (l count : ℕ) (unvisited : AtomSet) (m : ModalClause) (under : Assumptions) → Descends st es fs xs sheet l count → Orderly l (st.boxes l) → Orderly l (st.diamonds l) → NextIs (st.diamonds l) (frame_at fs l).unvisited m → ((i : ℕ) → has unvisited i ≡ has (frame_at fs l).unvisited i && not (eqb m.name i)) → AssumesJust under (part_of st l (has (frame_at fs l).valuation) m) → SameBelow l fs gs → frame_at gs l ≡ staged (frame_at fs l) (frame_at fs l).stage unvisited m → frame_at gs (suc l) ≡ fresh under (frame_at fs l).row count → Seeks st es gs xs sheet (suc l) (suc count)
 unfolding Above world_turned
-descends_on st es fs gs xs sheet l count left m under k boxes diamonds next_is less stands same is below =
+descends_on st es fs gs xs sheet l count unvisited m under k boxes diamonds next_is less assumed same is below =
     record {
       trial = trial;
       above = subst (λ (x : Frame). Visits (Above st es gs xs l) st es l x trial) (sym is) above;
       row = ap (λ (x : Frame). x.row) below ∙ k.counted;
       parent = ap (λ (x : Frame). x.parent) below;
-      says = subst (λ (y : Assumptions). Says y (part_of st l v m)) (sym (ap (λ (x : Frame). x.under) below)) (says_all stands (part_small v (st.boxes l) m (diamonds.small m next_is.listed).1 boxes.small));
+      assumed = subst (λ (y : Assumptions). AssumesJust y (part_of st l v m)) (sym (ap (λ (x : Frame). x.under) below)) assumed;
       counted = ap suc k.counted;
       shows = k.shows;
     }
@@ -82,35 +79,35 @@ descends_on st es fs gs xs sheet l count left m under k boxes diamonds next_is l
     v : Valuation
     v = has f.valuation
 
-    next : Next left k.rest m
-    next = next_pending v f.left left (st.diamonds l) k.world.done k.rest m diamonds.rising k.world.split k.left next_is less
+    next : Next unvisited k.rest m
+    next = next_pending v f.unvisited unvisited (st.diamonds l) k.world.done k.rest m diamonds.rising k.world.split k.unvisited next_is less
 
     trial : Trial
-    trial = record { literals = part_of st l v m; parent = f.row; rows = rows_of k.world }
+    trial = record { literals = part_of st l v m; small = part_small v (st.boxes l) m (diamonds.small m next_is.listed).1 boxes.small; parent = f.row; rows = world_rows k.world }
 
-    u : (w : World st es l k.trial f (m ∷ next.rest)) × (rows_of w ≡ rows_of k.world)
-    u = subst (λ (ps : List ModalClause). (w : World st es l k.trial f ps) × (rows_of w ≡ rows_of k.world)) next.is (k.world, refl)
+    u : (w : World st es l k.trial f (m ∷ next.rest)) × (world_rows w ≡ world_rows k.world)
+    u = subst (λ (ps : List ModalClause). (w : World st es l k.trial f ps) × (world_rows w ≡ world_rows k.world)) next.is (k.world, refl)
 
-    above : Visits (Above st es gs xs l) st es l (turned f f.stage left m) trial
+    above : Visits (Above st es gs xs l) st es l (staged f f.stage unvisited m) trial
     above =
         record {
           trial = k.trial;
           above = above_same st es es fs gs xs l same (λ _ _. refl) k.trial k.above;
           rest = next.rest;
-          world = world_turned f.stage left m u.0;
-          left = next.names;
+          world = world_turned f.stage unvisited m u.0;
+          unvisited = next.names;
           literals = refl;
           parent = refl;
           rows = sym u.1;
         }
 
-pub settles : (st : State) (es : Lists) (fs gs : List Frame) (xs : List Literal) (sheet : List SheetRow) (l count : ℕ) → Descends st es fs xs sheet l count → ((i : ℕ) → has (frame_at fs l).left i ≡ false) → SameBelow l fs gs → frame_at gs l ≡ turned (frame_at fs l) Settled (frame_at fs l).left (frame_at fs l).diamond → Settles st es gs xs sheet l count
+pub settles : (st : State) (es : Lists) (fs gs : List Frame) (xs : List Literal) (sheet : List SheetRow) (l count : ℕ) → Descends st es fs xs sheet l count → ((i : ℕ) → has (frame_at fs l).unvisited i ≡ false) → SameBelow l fs gs → frame_at gs l ≡ staged (frame_at fs l) Settled (frame_at fs l).unvisited (frame_at fs l).diamond → Settles st es gs xs sheet l count
 unfolding world_turned
 settles st es fs gs xs sheet l count k z same is =
     let f : Frame = frame_at fs l in
-    let D : List ModalClause → Frame → Type 0 = λ ps g. (w : World st es l k.trial g ps) × (count ≡ length (rows_of w)) × Shows sheet (rows_of w) in
-    let a : D k.rest (turned f Settled f.left f.diamond) = (world_turned Settled f.left f.diamond k.world, k.counted, k.shows) in
-    let b : D [] (turned f Settled f.left f.diamond) = subst (λ (ps : List ModalClause). D ps (turned f Settled f.left f.diamond)) (none_left f.left k.rest k.left z) a in
+    let D : List ModalClause → Frame → Type 0 = λ ps g. (w : World st es l k.trial g ps) × (count ≡ length (world_rows w)) × Shows sheet (world_rows w) in
+    let a : D k.rest (staged f Settled f.unvisited f.diamond) = (world_turned Settled f.unvisited f.diamond k.world, k.counted, k.shows) in
+    let b : D [] (staged f Settled f.unvisited f.diamond) = subst (λ (ps : List ModalClause). D ps (staged f Settled f.unvisited f.diamond)) (none_left f.unvisited k.rest k.unvisited z) a in
     let c : D [] (frame_at gs l) = subst (D []) (sym is) b in
     record {
       trial = k.trial;

@@ -1,6 +1,6 @@
 pub mod Drawing
 pub mod Shown
-pub mod Weights
+pub mod Termination
 pub mod Outcomes
 pub mod Worlds
 pub mod Steps

@@ -1,12 +1,12 @@
 // One question, from its first world to its outcome.
-ghost use Rattle.std.specs.Prelude.{◌≡◌, ◌≤◌, length};
+ghost use Rattle.std.specs.Prelude.{◌≡◌, length};
 ghost use Rattle.engine.specs.Outcomes.{Questioned};
-ghost use Rattle.engine.specs.Steps.{outset, tidied, KeepsAll};
-ghost use Rattle.engine.specs.Weights.{Budget};
+ghost use Rattle.engine.specs.Steps.{outset, tidied, KeepsAll, TurnStarts};
 ghost use Rattle.engine.specs.declared.frames.Turn.TheVariants.{Done};
-ghost use Rattle.stack.specs.Entries.{entries_of, slots_of};
+ghost use Rattle.stack.specs.Entries.{entries_of};
 
-use crate::frames::{Answer, Cursor, Frame, Outcome, Turn};
+use crate::frames::{Answer, Cursor, Frame, Turn};
+use crate::outcome::Outcome;
 use crate::steps::{start, step};
 use atoms::assumptions::Assumptions;
 use atoms::levels::{LEVELS, Level};
@@ -22,8 +22,7 @@ fn run<O: Oracle>(
     stack: &mut Stack<'_, Frame>,
     sheet: &mut [SheetRow],
 ) -> Outcome
-    requires room { 8 ≤ length (slots_of stack.old) }
-    requires budget { Budget (entries_of stack.old) outset }
+    requires starts { TurnStarts stack.old outset }
     ensures keeps { KeepsAll table.now (O.Oracle.entries oracle.old) (entries_of stack.old) sheet.old outset (O.Oracle.entries oracle.new) (entries_of stack.new) sheet.new (Done result) }
     ensures rows { length sheet.new ≡ length sheet.old }
 {

@@ -1,17 +1,18 @@
 // The turns of a question: what the world on top does next.
-ghost use Rattle.std.specs.Prelude.{◌≡◌, ◌+◌, ◌≤◌, List, length};
+ghost use Rattle.std.specs.Prelude.{◌≡◌, ◌+◌, List, length};
 ghost use Rattle.atoms.specs.Sets.{has, letters_of};
 ghost use Rattle.clausal.specs.Clausal.{Orderly};
 ghost use Rattle.engine.specs.Pending.{NextIs, NextOf};
-ghost use Rattle.engine.specs.Steps.{Ready, fresh, drawn_at, closing, leaving, popped, KeepsAll, Moves};
-ghost use Rattle.engine.specs.Weights.{frame_at, Budget, Turned};
+ghost use Rattle.engine.specs.Steps.{NoCore, fresh, drawn_at, leaving, popped, TurnStarts, TurnDoes, QuietTurn};
+ghost use Rattle.engine.specs.Worlds.{frame_at};
 ghost use Rattle.engine.specs.declared.frames.Answer.TheVariants.{Closed};
 ghost use Rattle.engine.specs.declared.frames.Stage.TheVariants.{Seeking, Descending};
 ghost use Rattle.naming.specs.Tables.{diamonds_in};
 ghost use Rattle.sheet.specs.declared.row.SheetRow.{SheetRow};
 ghost use Rattle.stack.specs.Entries.{entries_of, slots_of};
 
-use crate::frames::{Answer, Cursor, Frame, Outcome, Stage, Turn};
+use crate::frames::{Answer, Cursor, Frame, Stage, Turn};
+use crate::outcome::Outcome;
 use atoms::assumptions::Assumptions;
 use atoms::clauses::{Entry, Literal, Mark};
 use atoms::levels::Level;
@@ -42,7 +43,7 @@ pub(crate) fn start(under: Assumptions, parent: u64, row: u64) -> Frame
         stage: Stage::Seeking,
         under,
         valuation: AtomSet::NONE,
-        left: AtomSet::NONE,
+        unvisited: AtomSet::NONE,
         diamond: NO_DIAMOND,
         parent,
         row,
@@ -70,41 +71,21 @@ fn draw(sheet: &mut [SheetRow], frame: Frame, level: Level, valuation: AtomSet)
     }
 }
 
-// The world on top closes with a core: so does the part that the world above visits, or the question, at the root.
-fn close(stack: &mut Stack<'_, Frame>, at: Cursor, core: Assumptions) -> Turn
+// The world on top has its answer: so has the world above for the part that it visits, or the question at the root.
+fn leave(stack: &mut Stack<'_, Frame>, at: Cursor, answer: Answer, outcome: Outcome) -> Turn
     requires { length (entries_of stack.old) ≡ at.level + 1 }
-    ensures turn { result ≡ closing at core }
+    ensures turn { result ≡ leaving at answer outcome }
     ensures frames { entries_of stack.new ≡ popped at (entries_of stack.old) }
     ensures room { length (slots_of stack.new) ≡ length (slots_of stack.old) }
 {
     match at.level.previous() {
-        None => Turn::Done(Outcome::Closed(core)),
+        None => Turn::Done(outcome),
         Some(level) => {
             stack.pop();
             Turn::Go(Cursor {
                 level,
                 count: at.count,
-                answer: Answer::Closed(core),
-            })
-        }
-    }
-}
-
-// The world on top has its tree: so has the part that the world above visits, or the question, at the root.
-fn leave(stack: &mut Stack<'_, Frame>, at: Cursor) -> Turn
-    requires { length (entries_of stack.old) ≡ at.level + 1 }
-    ensures turn { result ≡ leaving at }
-    ensures frames { entries_of stack.new ≡ popped at (entries_of stack.old) }
-    ensures room { length (slots_of stack.new) ≡ length (slots_of stack.old) }
-{
-    match at.level.previous() {
-        None => Turn::Done(Outcome::Open(at.count)),
-        Some(level) => {
-            stack.pop();
-            Turn::Go(Cursor {
-                level,
-                count: at.count,
-                answer: Answer::Open,
+                answer,
             })
         }
     }
@@ -118,23 +99,20 @@ fn seek<O: Oracle>(
     sheet: &mut [SheetRow],
     at: Cursor,
 ) -> Turn
-    requires room { 8 ≤ length (slots_of stack.old) }
-    requires budget { Budget (entries_of stack.old) at }
+    requires starts { TurnStarts stack.old at }
     requires stage { (frame_at (entries_of stack.old) at.level).stage ≡ Seeking }
-    ensures ends { Turned (O.Oracle.entries oracle.old) (entries_of stack.old) at (O.Oracle.entries oracle.new) (entries_of stack.new) result }
-    ensures keeps { KeepsAll table.now (O.Oracle.entries oracle.old) (entries_of stack.old) sheet.old at (O.Oracle.entries oracle.new) (entries_of stack.new) sheet.new result }
-    ensures room { length (slots_of stack.new) ≡ length (slots_of stack.old) }
+    ensures { TurnDoes table.now (O.Oracle.entries oracle.old) stack.old sheet.old at (O.Oracle.entries oracle.new) stack.new sheet.new result }
 {
     let frame = stack.top().unwrap();
     match oracle.solve(at.level, frame.under) {
-        Err(core) => close(stack, at, core),
+        Err(core) => leave(stack, at, Answer::Closed(core), Outcome::Closed(core)),
         Ok(valuation) => {
             draw(sheet, frame, at.level, valuation);
-            let left = fired_names(table.diamonds(at.level), valuation);
+            let unvisited = fired_names(table.diamonds(at.level), valuation);
             let descending = Frame {
                 stage: Stage::Descending,
                 valuation,
-                left,
+                unvisited,
                 ..frame
             };
             stack.replace_top(descending).unwrap();
@@ -146,28 +124,26 @@ fn seek<O: Oracle>(
     }
 }
 
-// The next of the diamond clauses with a name among those left, lowest name first.
-fn next(diamonds: &[ModalClause], left: AtomSet) -> Option<ModalClause>
-    ensures { NextOf diamonds.now left result }
+// The diamond clause that is visited next: that with the lowest name of those still to visit.
+fn next(diamonds: &[ModalClause], unvisited: AtomSet) -> Option<ModalClause>
+    ensures { NextOf diamonds.now unvisited result }
 {
-    named(diamonds, left.lowest()?)
+    named(diamonds, unvisited.lowest()?)
 }
 
 // A world tries the part of a fired diamond clause, one level further.
 fn visit(table: &Table, stack: &mut Stack<'_, Frame>, at: Cursor, diamond: ModalClause) -> Cursor
-    requires room { 8 ≤ length (slots_of stack.old) }
-    requires budget { Budget (entries_of stack.old) at }
+    requires starts { TurnStarts stack.old at }
     requires stage { (frame_at (entries_of stack.old) at.level).stage ≡ Descending }
-    requires ready { Ready at.answer }
+    requires ready { NoCore at.answer }
     requires orderly { Orderly at.level (diamonds_in table.now at.level) }
-    requires next { NextIs (diamonds_in table.now at.level) (frame_at (entries_of stack.old) at.level).left diamond }
-    ensures moves { Moves table.now (entries_of stack.old) at (entries_of stack.new) result }
-    ensures room { length (slots_of stack.new) ≡ length (slots_of stack.old) }
+    requires next { NextIs (diamonds_in table.now at.level) (frame_at (entries_of stack.old) at.level).unvisited diamond }
+    ensures { QuietTurn table.now stack.old at stack.new result }
 {
     let frame = stack.top().unwrap();
     let under = part(table.boxes(at.level), frame.valuation, diamond.literal);
     let waiting = Frame {
-        left: frame.left.remove(diamond.name),
+        unvisited: frame.unvisited.remove(diamond.name),
         diamond,
         ..frame
     };
@@ -182,15 +158,13 @@ fn visit(table: &Table, stack: &mut Stack<'_, Frame>, at: Cursor, diamond: Modal
 
 // A world with a valuation visits the next of its fired diamond clauses, or is settled.
 fn descend(table: &Table, stack: &mut Stack<'_, Frame>, at: Cursor) -> Cursor
-    requires room { 8 ≤ length (slots_of stack.old) }
-    requires budget { Budget (entries_of stack.old) at }
+    requires starts { TurnStarts stack.old at }
     requires stage { (frame_at (entries_of stack.old) at.level).stage ≡ Descending }
-    requires ready { Ready at.answer }
-    ensures moves { Moves table.now (entries_of stack.old) at (entries_of stack.new) result }
-    ensures room { length (slots_of stack.new) ≡ length (slots_of stack.old) }
+    requires ready { NoCore at.answer }
+    ensures { QuietTurn table.now stack.old at stack.new result }
 {
     let frame = stack.top().unwrap();
-    match next(table.diamonds(at.level), frame.left) {
+    match next(table.diamonds(at.level), frame.unvisited) {
         Some(diamond) => visit(table, stack, at, diamond),
         None => {
             let settled = Frame {
@@ -214,13 +188,10 @@ fn learn<O: Oracle>(
     at: Cursor,
     core: Assumptions,
 ) -> Turn
-    requires room { 8 ≤ length (slots_of stack.old) }
-    requires budget { Budget (entries_of stack.old) at }
+    requires starts { TurnStarts stack.old at }
     requires stage { (frame_at (entries_of stack.old) at.level).stage ≡ Descending }
     requires closed { at.answer ≡ Closed core }
-    ensures ends { Turned (O.Oracle.entries oracle.old) (entries_of stack.old) at (O.Oracle.entries oracle.new) (entries_of stack.new) result }
-    ensures keeps { (sheet : List SheetRow) → KeepsAll table.now (O.Oracle.entries oracle.old) (entries_of stack.old) sheet at (O.Oracle.entries oracle.new) (entries_of stack.new) sheet result }
-    ensures room { length (slots_of stack.new) ≡ length (slots_of stack.old) }
+    ensures { (sheet : List SheetRow) → TurnDoes table.now (O.Oracle.entries oracle.old) stack.old sheet at (O.Oracle.entries oracle.new) stack.new sheet result }
 {
     let frame = stack.top().unwrap();
     let clause = learnt_clause(table.boxes(at.level), frame.valuation, frame.diamond, core);
@@ -252,17 +223,14 @@ pub(crate) fn step<O: Oracle>(
     sheet: &mut [SheetRow],
     at: Cursor,
 ) -> Turn
-    requires room { 8 ≤ length (slots_of stack.old) }
-    requires budget { Budget (entries_of stack.old) at }
-    ensures ends { Turned (O.Oracle.entries oracle.old) (entries_of stack.old) at (O.Oracle.entries oracle.new) (entries_of stack.new) result }
-    ensures keeps { KeepsAll table.now (O.Oracle.entries oracle.old) (entries_of stack.old) sheet.old at (O.Oracle.entries oracle.new) (entries_of stack.new) sheet.new result }
-    ensures room { length (slots_of stack.new) ≡ length (slots_of stack.old) }
+    requires starts { TurnStarts stack.old at }
+    ensures { TurnDoes table.now (O.Oracle.entries oracle.old) stack.old sheet.old at (O.Oracle.entries oracle.new) stack.new sheet.new result }
 {
     let frame = stack.top().unwrap();
     match (frame.stage, at.answer) {
         (Stage::Seeking, _) => seek(oracle, table, stack, sheet, at),
         (Stage::Descending, Answer::Nothing | Answer::Open) => Turn::Go(descend(table, stack, at)),
         (Stage::Descending, Answer::Closed(core)) => learn(oracle, table, stack, at, core),
-        (Stage::Settled, _) => leave(stack, at),
+        (Stage::Settled, _) => leave(stack, at, Answer::Open, Outcome::Open(at.count)),
     }
 }

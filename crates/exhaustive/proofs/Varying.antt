@@ -1,8 +1,8 @@
 -- Why no valuation is missed.
 use Rattle.std.proofs.Common.{◌≡◌, ℕ, Bool, true, false, not, ◌&&◌, eqb, List, Some, None, Option, refl, arith}
 use Rattle.std.proofs.lemmas.Bool.Decides.{nat_tests}
-use Rattle.atoms.specs.Assuming.{settled}
-use Rattle.atoms.specs.Clauses.{Valuation, names}
+use Rattle.atoms.specs.Assuming.{Apart, is_free}
+use Rattle.atoms.specs.Clauses.{Valuation}
 use Rattle.atoms.specs.Sets.{has}
 use Rattle.atoms.specs.declared.assumptions.Assumptions.{Assumptions}
 use Rattle.atoms.specs.declared.clauses.Entry.{Entry}
@@ -10,7 +10,7 @@ use Rattle.atoms.specs.declared.sets.AtomSet.{AtomSet}
 use Rattle.atoms.proofs.Obeying.{obeys_follows, follows_obeys}
 use Rattle.atoms.proofs.Restricting.{restricted, restricted_all}
 use Rattle.oracle.specs.Oracles.{Satisfies, Unsatisfiable, Finds}
-use Rattle.exhaustive.specs.Exhausts.{Varies, Made, Ends}
+use Rattle.exhaustive.specs.Exhausts.{Varies, Made, FindsAmong}
 
 module _ (free base rest : AtomSet) (a : ℕ) (less : (i : ℕ) → has rest i ≡ has free i && not (eqb a i)) where
   -- one free atom less, by how the atom is set
@@ -22,7 +22,7 @@ module _ (free base rest : AtomSet) (a : ℕ) (less : (i : ℕ) → has rest i �
 
   -- neither way of setting the atom finds one
   pub neither : (es : List Entry) (ins outs : AtomSet) → ((i : ℕ) → (i ≡ a → ⊥) → has ins i ≡ has base i) → has ins a ≡ true → ((i : ℕ) → (i ≡ a → ⊥) → has outs i ≡ has base i) → has outs a ≡ false
-      → Ends es rest ins None → Ends es rest outs None → Ends es free base None
+      → FindsAmong es rest ins None → FindsAmong es rest outs None → FindsAmong es free base None
   neither es ins outs si hi so ho f g v h m = at (v a) refl
     where
       at : (b : Bool) → v a ≡ b → ⊥
@@ -30,12 +30,12 @@ module _ (free base rest : AtomSet) (a : ℕ) (less : (i : ℕ) → has rest i �
       at false q = g v (narrower false outs v so ho q h) m
 
 -- the valuation that is as assumed, but for its own free atoms
-pub complete : (es : List Entry) (w : Assumptions) (free : AtomSet) → ((i : ℕ) → has free i ≡ names es i && not (settled w i)) → Ends es free w.within None → Unsatisfiable w es
+pub complete : (es : List Entry) (w : Assumptions) (free : AtomSet) → ((i : ℕ) → has free i ≡ is_free es w i) → FindsAmong es free w.within None → Unsatisfiable w es
 complete es w free e none v o m =
     none (restricted es w v) (λ i h. grind (arith, nat_tests, e i)) (restricted_all es w v (obeys_follows v w o) m)
 
 -- what is found obeys
-pub found : (es : List Entry) (w : Assumptions) (free s : AtomSet) → ((i : ℕ) → has w.within i && has w.without i ≡ false) → ((i : ℕ) → has free i ≡ names es i && not (settled w i))
+pub found : (es : List Entry) (w : Assumptions) (free s : AtomSet) → Apart w → ((i : ℕ) → has free i ≡ is_free es w i)
     → Made es free w.within s → Satisfies es w (has s)
 found es w free s apart e k = record {
   obeyed = follows_obeys (has s) w (record {
@@ -46,7 +46,7 @@ found es w free s apart e k = record {
 }
 
 -- what trying every valuation finds
-pub finds : (es : List Entry) (w : Assumptions) (free : AtomSet) (r : Option AtomSet) → ((i : ℕ) → has w.within i && has w.without i ≡ false)
-    → ((i : ℕ) → has free i ≡ names es i && not (settled w i)) → Ends es free w.within r → Finds es w r
+pub finds : (es : List Entry) (w : Assumptions) (free : AtomSet) (r : Option AtomSet) → Apart w
+    → ((i : ℕ) → has free i ≡ is_free es w i) → FindsAmong es free w.within r → Finds es w r
 finds es w free None apart e f = complete es w free e f
 finds es w free (Some s) apart e f = found es w free s apart e f

@@ -16,8 +16,8 @@ pub record Made (es : List Entry) (free base s : AtomSet) : Type 0 where
   pub varies : Varies free base (has s)
   pub made : makes_all (has s) es ≡ true
 
-abbrev pub Ends : List Entry → AtomSet → AtomSet → Option AtomSet → Type 0
-Ends es free base r = MatchOption r ((v : Valuation) → Varies free base v → makes_all v es ≢ true) (λ s. Made es free base s)
+abbrev pub FindsAmong : List Entry → AtomSet → AtomSet → Option AtomSet → Type 0
+FindsAmong es free base r = MatchOption r ((v : Valuation) → Varies free base v → makes_all v es ≢ true) (λ s. Made es free base s)
 
 -- the entries of each level
 abbrev pub exhaustive_entries : Exhaustive → ℕ → List Entry

@@ -2,14 +2,17 @@
 //!
 //! It tries every valuation of the named atoms that are not assumed, each atom in and out in turn, and asks for each
 //! whether it makes every entry true. It promises no order, and its core is always all that was assumed: an oracle to
-//! compare others with, small enough to be seen to be right.
+//! compare others with, small enough to be seen to be right. The entries stand in the store of `oracle`.
+//!
+//! - `Exhaustive::new`: an oracle without entries.
+//! - `take`, `solve`, `forget`, `clear`: the calls of `Oracle`; `solve` says that its core is all that was assumed.
 #![tactic(auto)]
 
-ghost use Rattle.exhaustive.specs.Exhausts.{Ends, exhaustive_entries};
+ghost use Rattle.exhaustive.specs.Exhausts.{FindsAmong, exhaustive_entries};
 ghost use Rattle.oracle.specs.Oracles.{Solves, Clears, WholeCore};
 
 use atoms::assumptions::Assumptions;
-use atoms::clauses::{Entry, all_hold, named};
+use atoms::clauses::{Entry, all_hold};
 use atoms::levels::Level;
 use atoms::sets::AtomSet;
 use oracle::Oracle;
@@ -18,7 +21,7 @@ use oracle::store::Store;
 
 // A valuation that makes every entry true and differs from `base` at most at the atoms of `free`.
 fn find(entries: &[Entry], free: AtomSet, base: AtomSet) -> Option<AtomSet>
-    ensures { Ends entries.now free base result }
+    ensures { FindsAmong entries.now free base result }
 {
     let Some(atom) = free.lowest() else {
         return all_hold(entries, base).then_some(base);
@@ -64,8 +67,7 @@ impl Oracle for Exhaustive {
             return Err(under);
         }
         let entries = self.store.entries(level);
-        let free = named(entries).intersection(under.undecided());
-        find(entries, free, under.within).ok_or(under)
+        find(entries, under.free(entries), under.within).ok_or(under)
     }
 
     fn forget(&mut self) {

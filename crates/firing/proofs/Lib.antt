@@ -1,4 +1,5 @@
 pub mod Folding
 pub mod Gathering
-pub mod Blaming
-pub mod Teaching
+pub mod Rising
+pub mod Choosing
+pub mod FromCores

@@ -3,7 +3,7 @@ ghost use Rattle.std.specs.Prelude.{◌≡◌, ◌∷◌, ◌==◌};
 ghost use Rattle.std.specs.List.{find};
 ghost use Rattle.atoms.specs.Sets.{has};
 ghost use Rattle.clausal.specs.States.{fired, literals};
-ghost use Rattle.firing.specs.Firing.{Stands, Names};
+ghost use Rattle.firing.specs.Firing.{AssumesJust, NamesOf};
 
 use atoms::assumptions::Assumptions;
 use atoms::clauses::Literal;
@@ -12,7 +12,7 @@ use clausal::modal_clauses::ModalClause;
 
 /// The names of the clauses that fire.
 pub fn fired_names(clauses: &[ModalClause], valuation: AtomSet) -> AtomSet
-    ensures { Names result (fired (has valuation) clauses.now) }
+    ensures { NamesOf result (fired (has valuation) clauses.now) }
 {
     clauses
         .iter()
@@ -29,7 +29,7 @@ pub fn named(clauses: &[ModalClause], name: u8) -> Option<ModalClause>
 
 /// What the part of a diamond clause is tried under: the diamond clause's literal and those of the fired box clauses.
 pub fn part(boxes: &[ModalClause], valuation: AtomSet, diamond: Literal) -> Assumptions
-    ensures { Stands result (diamond ∷ literals (fired (has valuation) boxes.now)) }
+    ensures { AssumesJust result (diamond ∷ literals (fired (has valuation) boxes.now)) }
 {
     boxes
         .iter()

@@ -39,9 +39,9 @@ fn three_of_four_boxes_fire(rt: HostRuntime) {
         within: AtomSet::from(1 << 3 | 1 << 7),
         without: AtomSet::NONE,
     };
-    let lesson = Clause {
+    let learnt = Clause {
         plain: AtomSet::NONE,
         negated: AtomSet::from(1 << 16 | 1 << 30),
     };
-    assert_eq!(rt; learnt_clause(&boxes, valuation, diamond, core), lesson);
+    assert_eq!(rt; learnt_clause(&boxes, valuation, diamond, core), learnt);
 }

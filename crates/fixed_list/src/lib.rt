@@ -1,7 +1,12 @@
-//! A list of at most `N` items, kept in an array.
+//! A list of at most `N` items, kept in an array. It stands on no crate, and promises what the list holds after each
+//! call.
 //!
-//! `items_of v` is what the list `v` holds, in the order in which the items came. The items fill the first slots of the
-//! array; what stands in the slots after them is no item, and no call shows it.
+//! `items_of v` (`specs/Items.antt`) is what the list `v` holds, in the order in which the items came. The items fill the
+//! first slots of the array; what stands in the slots after them is no item, and no call shows it.
+//!
+//! - `ArrayVec::new`: the empty list
+//! - `len`, `is_empty`, `as_slice`: how many items it has, whether it has none, and the items in place
+//! - `push`: appends an item, or hands it back where the list is full
 #![tactic(auto)]
 
 ghost use Rattle.std.specs.Prelude.{◌≡◌, ◌≤◌, length, ⊤};

@@ -1,4 +1,4 @@
--- What a text that is being read holds.
+-- For proofs alone: what a text that is being read holds.
 use Rattle.std.specs.Prelude.{ℕ}
 use Rattle.hex_text.specs.declared.place.Place.{Place}
 use Rattle.hex_text.specs.declared.place.Place.TheVariants.{Blank, Digit, Number, Comment}

@@ -1,5 +1,6 @@
 -- Which bytes a text says: what is read of it after each byte.
-use Rattle.std.specs.Prelude.{◌≡◌, ℕ, ◌+◌, ◌-◌, ◌*◌, Bool, cond, ◌&&◌, ◌||◌, List, [], ◌∷◌, ◌++◌, Some, None, Ok, Err, vec_items, Option, Result, ◌==◌, nat_le}
+use Rattle.std.specs.Prelude.{◌≡◌, ℕ, ◌+◌, ◌*◌, Bool, cond, ◌||◌, List, [], ◌∷◌, ◌++◌, Some, None, Ok, Err, vec_items, Option, Result, ◌==◌}
+use Rattle.std.specs.Char.{is_digit, digit_value}
 use Rattle.hex_text.specs.declared.faults.TextFault.{TextFault}
 use Rattle.hex_text.specs.declared.faults.TextFault.TheVariants.{Unexpected, Memory}
 use Rattle.hex_text.specs.declared.place.Place.{Place}
@@ -17,18 +18,12 @@ text_state place bytes = record { place = place; bytes = bytes }
 abbrev pub state_of : Reader → TextState
 state_of r = text_state r.place (vec_items r.bytes)
 
-abbrev pub start : TextState
-start = text_state Blank []
+abbrev pub nothing_read : TextState
+nothing_read = text_state Blank []
 
-abbrev pub within : ℕ → ℕ → ℕ → Bool
-within low high b = nat_le low b && nat_le b high
-
--- the value of a digit: 0 to 9, a to f and A to F
+-- the value of a digit in base sixteen, as the standard library has it: 0 to 9, a to f and A to F
 abbrev pub digit_of : ℕ → Option ℕ
-digit_of b =
-    cond (within 48 57 b) (Some (b - 48))
-    (cond (within 97 102 b) (Some (b - 97 + 10))
-    (cond (within 65 70 b) (Some (b - 65 + 10)) None))
+digit_of b = cond (is_digit b 16) (Some (digit_value b)) None
 
 -- space, tab, carriage return and the end of a line
 abbrev pub is_blank : ℕ → Bool
@@ -66,6 +61,7 @@ text_ended (Digit high) bytes at = Err at
 text_ended Number bytes at = Ok bytes
 text_ended Comment bytes at = Ok bytes
 
+-- go on, unless the text was refused
 abbrev pub and_then : Result TextState ℕ → (TextState → Result (List ℕ) ℕ) → Result (List ℕ) ℕ
 and_then (Ok s) f = f s
 and_then (Err at) f = Err at
@@ -76,7 +72,7 @@ read_from s at (b ∷ bs) = and_then (byte_read s b at) (λ t. read_from t (at +
 
 -- the bytes that a text says, or the byte, counted from 0, at which it is refused
 abbrev pub text_of : List ℕ → Result (List ℕ) ℕ
-text_of text = read_from start 0 text
+text_of text = read_from nothing_read 0 text
 
 -- the text is refused at this byte, or there was no memory
 abbrev pub Refuses : {S : Type 0} → Result S ℕ → TextFault → Type 0

@@ -1,6 +1,6 @@
 // Reading a text, byte by byte.
 ghost use Rattle.std.specs.Prelude.{◌≡◌, ◌<◌, Ok, IfSome, IfOk, IfErr};
-ghost use Rattle.hex_text.specs.Texts.{digit_of, state_of, start, byte_read, text_of, Moves, Refuses};
+ghost use Rattle.hex_text.specs.Texts.{digit_of, state_of, nothing_read, byte_read, text_of, Moves, Refuses};
 
 use crate::faults::TextFault;
 use crate::place::{Place, Reader};
@@ -11,17 +11,12 @@ fn digit(byte: u8) -> Option<u8>
     ensures value { result ≡ digit_of byte }
     ensures small { IfSome result (λ d. d < 16) }
 {
-    match byte {
-        b'0'..=b'9' => Some(byte - b'0'),
-        b'a'..=b'f' => Some(byte - b'a' + 10),
-        b'A'..=b'F' => Some(byte - b'A' + 10),
-        _ => None,
-    }
+    char::from(byte).to_digit(16).map(|value| value as u8)
 }
 
 impl Reader {
     fn new(heap: Global) -> Reader
-        ensures { state_of result ≡ start }
+        ensures { state_of result ≡ nothing_read }
     {
         Reader {
             place: Place::Blank,

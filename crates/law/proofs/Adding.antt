@@ -22,7 +22,7 @@ use Rattle.clausal.specs.declared.shapes.Shape.{Shape}
 use Rattle.clausal.proofs.Forms.{makes_from, Source, modal_from, modal_in}
 use Rattle.clausal.proofs.Kept.{rule_kept, lit_kept}
 use Rattle.clausal.proofs.Reading.{reading_name}
-use Rattle.law.specs.Verdicts.{Negates}
+use Rattle.law.specs.Verdicts.{NegatesNames}
 
 -- a slot that stands for something is in the list
 taken_in : (xs : List Name) (i : ℕ) {r k : ℕ} {s : Bool} → get_or xs i free ≡ place r k s → i < length xs
@@ -57,20 +57,20 @@ module _ (st : State) (rows : List Row) (after : State) (a : Extends st rows aft
         let n : m.name ≡ 16 + src.slot = ap (λ (z : ModalClause). z.name) src.modal in
         ap (at_world after l u ws w) n ∙ reading_kept src.rule held l src.slot src.row src.sign src.is u ws w ∙ ap (at_world st l u ws w) (sym n)
 
-module _ (st : State) (rows : List Row) (after : State) (a : Adds st rows after) (cl : Clausal st) (l : ℕ) (c : Clause) (g : Negates st l c) where
+module _ (st : State) (rows : List Row) (after : State) (a : Adds st rows after) (cl : Clausal st) (l : ℕ) (c : Clause) (g : NegatesNames st l c) where
   box_in : (b : ModalClause) → In b (st.boxes l) → In b (modals_at boxed st l)
   box_in b i = subst (In b) (cl.boxes l) i
 
   diamond_in : In g.diamond (modals_at diamonded st l)
   diamond_in = subst (In g.diamond) (cl.diamonds l) g.from
 
-  pub negates_kept : Negates after l c
+  pub negates_kept : NegatesNames after l c
   negates_kept = record {
     diamond = g.diamond;
     from = subst (In g.diamond) (sym (a.diamonds l)) (modal_kept st rows after a.extends diamonded cl.naming l g.diamond diamond_in);
     named = g.named;
     others = λ n h e ne. (let (b, i, q) = g.others n h e ne in (b, subst (In b) (sym (a.boxes l)) (modal_kept st rows after a.extends boxed cl.naming l b (box_in b i)), q));
-    nothing = g.nothing;
+    no_plain = g.no_plain;
   }
 
   -- an atom that the clause negates reads as before
@@ -84,6 +84,6 @@ module _ (st : State) (rows : List Row) (after : State) (a : Adds st rows after)
   forced_kept f u m w h =
       let (n, b, e) = makes_where (at_world st l u m.worlds w) c (f u m w h) in
       elim (or_cases _ _ e) [
-        | inl z ↦ absurd (both_ways _ (g.nothing n b) (and_parts _ _ z).0)
+        | inl z ↦ absurd (both_ways _ (g.no_plain n b) (and_parts _ _ z).0)
         | inr z ↦ (let (x, y) = and_parts _ _ z in makes_from (at_world after l u m.worlds w) c (record { atom = n; holds = false }) b x (ap not (negated_reads n b x u m.worlds w) ∙ y))
       ]

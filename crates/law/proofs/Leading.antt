@@ -1,5 +1,5 @@
 -- Where calls lead: every session led to is sound, and two runs of the same calls never contradict each other.
-use Rattle.std.proofs.Common.{◌≡◌, ℕ, true, List, [], ◌∷◌, length, get_or, Some, None, Option, sym, ap, ◌∙◌, subst, arith}
+use Rattle.std.proofs.Common.{◌≡◌, ℕ, true, List, [], ◌∷◌, length, get_or, Some, None, Option, sym, ap, ◌∙◌, subst, arith, ◌++◌}
 use Rattle.modal.specs.Kripke.{meets}
 use Rattle.modal.specs.Rows.{says}
 use Rattle.modal.specs.declared.row.Row.{Row}
@@ -8,7 +8,7 @@ use Rattle.clausal.specs.States.{State}
 use Rattle.clausal.specs.Trees.{worlds}
 use Rattle.clausal.proofs.Flat.{model_of}
 use Rattle.law.specs.Calls.{Call, add, question, forget, Reply, added, opened, closed, forgotten, refused}
-use Rattle.law.specs.Runs.{add_reply, unknown, Answers, AddStep, AskStep, Step, History, Led, new, call, calls_of, rules_after, rules_by, Alike, Agrees, AgreeAll, Owes}
+use Rattle.law.specs.Runs.{add_reply, unknown, AnswerLaw, AddStep, AskStep, Step, History, LeadsTo, new, call, calls_of, Compatible, Agrees, AgreeAll, CallLaw}
 use Rattle.law.specs.Verdicts.{OpenLaw, ClosedLaw, Sound}
 use Rattle.law.proofs.Keeping.{fresh_sound, add_sound, learn_sound, forget_sound}
 
@@ -28,12 +28,25 @@ step_sound st (question asked) r after a s = go (unknown (length st.rules) asked
     go None q = subst Sound (sym q.left) (learn_sound st q.entries q.learns s q.few)
 step_sound st forget r after (_, e) s = subst Sound (sym e) (forget_sound st s)
 
-pub led_sound : {h : History} {st : State} → Led h st → Sound st
+pub led_sound : {h : History} {st : State} → LeadsTo h st → Sound st
 led_sound (new {st = st} f) = fresh_sound st f
 led_sound (call {st = st} {after = after} c r led s) = step_sound st c r after s (led_sound led)
 
--- the rules held are a function of the calls alone
-led_rules : {h : History} {st : State} → Led h st → st.rules ≡ rules_by (calls_of h)
+-- the rules held after a list of calls, the latest first, are a function of the calls alone
+abbrev rules_after : List (List Row) → List Row → Reply → List (List Row)
+rules_after rs rows (added _) = rs ++ rows ∷ []
+rules_after rs rows (refused _ _) = rs
+rules_after rs rows (opened _) = rs
+rules_after rs rows (closed _) = rs
+rules_after rs rows forgotten = rs
+
+abbrev rules_by : List Call → List (List Row)
+rules_by [] = []
+rules_by (add rows ∷ cs) = rules_after (rules_by cs) rows (add_reply (add_answer (rules_by cs) rows))
+rules_by (question asked ∷ cs) = rules_by cs
+rules_by (forget ∷ cs) = rules_by cs
+
+led_rules : {h : History} {st : State} → LeadsTo h st → st.rules ≡ rules_by (calls_of h)
 led_rules (new f) = f.rules
 led_rules (call {st = st} {after = after} {h = h} c r led s) = go c (led_rules led) s
   where
@@ -58,14 +71,14 @@ not_both : (s t : State) (asked core : List ℕ) (n : ℕ) → s.rules ≡ t.rul
 not_both s t asked core n e o c = c.nowhere (model_of o.tree) 0 (model_of o.tree).inhabited (λ k i. subst (λ (rs : List (List Row)). meets (says (get_or rs k [])) (worlds 0 o.tree) 0 ≡ true) e (o.meeting k (c.part k i)))
 
 module _ (s t : State) (e : s.rules ≡ t.rules) (after again : State) (r q : Reply) where
-  answers_alike : (asked : List ℕ) → after.rules ≡ again.rules → Answers after asked r → Answers again asked q → Alike r q
+  answers_alike : (asked : List ℕ) → after.rules ≡ again.rules → AnswerLaw after asked r → AnswerLaw again asked q → Compatible r q
   answers_alike asked z a b = record {
-    open_closed = λ n core u v. not_both after again asked core n z (subst (Answers after asked) u a) (subst (Answers again asked) v b);
-    closed_open = λ n core u v. not_both again after asked core n (sym z) (subst (Answers again asked) v b) (subst (Answers after asked) u a);
-    unknown_rule = λ k u. (let h : ◌≡◌ {A = ℕ} 8 22 = (subst (Answers after asked) u a).0 in absurd (omega arith));
+    open_closed = λ n core u v. not_both after again asked core n z (subst (AnswerLaw after asked) u a) (subst (AnswerLaw again asked) v b);
+    closed_open = λ n core u v. not_both again after asked core n (sym z) (subst (AnswerLaw again asked) v b) (subst (AnswerLaw after asked) u a);
+    unknown_rule = λ k u. (let h : ◌≡◌ {A = ℕ} 8 22 = (subst (AnswerLaw after asked) u a).0 in absurd (omega arith));
   }
 
-  asks_alike : (asked : List ℕ) (o : Option ℕ) → AskStep s asked after r o → AskStep t asked again q o → Alike r q
+  asks_alike : (asked : List ℕ) (o : Option ℕ) → AskStep s asked after r o → AskStep t asked again q o → Compatible r q
   asks_alike asked (Some k) (a, _) (b, _) = record {
     open_closed = λ n core u v. (let h : ◌≡◌ {A = ℕ} 0 1 = cc in omega arith);
     closed_open = λ n core u v. (let h : ◌≡◌ {A = ℕ} 0 1 = cc in omega arith);
@@ -79,7 +92,7 @@ module _ (s t : State) (e : s.rules ≡ t.rules) (after again : State) (r q : Re
   step_agrees forget (a, _) (b, _) = a ∙ sym b
 
 -- two runs of the same calls, over whatever oracles
-pub led_agree : {h k : History} {s t : State} → Led h s → Led k t → calls_of h ≡ calls_of k → AgreeAll h k
+pub led_agree : {h k : History} {s t : State} → LeadsTo h s → LeadsTo k t → calls_of h ≡ calls_of k → AgreeAll h k
 led_agree (new f) (new g) e = tt
 led_agree (new f) (call c r led s) e = let z : ◌≡◌ {A = ℕ} 0 1 = cc in omega arith
 led_agree (call c r led s) (new g) e = let z : ◌≡◌ {A = ℕ} 0 1 = cc in omega arith
@@ -89,7 +102,7 @@ led_agree (call {st = st} {after = after} {h = h} c r led s) (call {st = st'} {a
     (step_agrees st st' (led_rules led ∙ ap rules_by rest ∙ sym (led_rules run)) after again r q c s (subst (λ (x : Call). Step st' x q again) (sym first) t), led_agree led run rest)
 
 -- so a call owes no more than its step, on a sound session
-pub owes_step : (st : State) (c : Call) (r : Reply) (after : State) → (Sound st → Step st c r after) → Owes st c r after
+pub owes_step : (st : State) (c : Call) (r : Reply) (after : State) → (Sound st → Step st c r after) → CallLaw st c r after
 owes_step st c r after f h led =
     let s = led_sound led in
     let step = f s in

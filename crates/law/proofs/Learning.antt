@@ -7,19 +7,20 @@ use Rattle.lists.proofs.Members.{every_in, every_from, kept_in, in_kept}
 use Rattle.modal.specs.Kripke.{Model, World, meets}
 use Rattle.modal.specs.Rows.{says}
 use Rattle.modal.proofs.Models.{successor_inside}
-use Rattle.atoms.specs.Clauses.{Valuation, obeys_one, makes, makes_all, is_learnt, is_definition, learnt}
+use Rattle.atoms.specs.Clauses.{Valuation, obeys_one, makes, makes_all, is_learnt, is_definition, learnt, negation, positive}
 use Rattle.atoms.specs.Sets.{has}
 use Rattle.atoms.specs.declared.clauses.Clause.{Clause}
 use Rattle.atoms.specs.declared.clauses.Entry.{Entry}
 use Rattle.atoms.specs.declared.clauses.Literal.{Literal}
-use Rattle.clausal.specs.Clausal.{negation, Clausal}
-use Rattle.clausal.specs.Questions.{with_entries, part_of, CannotExist, CoreOf, negations, Lesson}
+use Rattle.clausal.specs.Clausal.{Clausal}
+use Rattle.clausal.specs.Questions.{with_entries, part_of, CannotExist, CoreOf, negations, LearntClause}
 use Rattle.clausal.specs.States.{State, rule_at, at_world, Forced, reads_name, obeys_all, handle_of}
 use Rattle.clausal.specs.declared.modal_clauses.ModalClause.{ModalClause}
 use Rattle.clausal.proofs.Forms.{clause_made, clause_cases}
 use Rattle.clausal.proofs.Reading.{handle_at, reading_name}
 use Rattle.clausal.proofs.Soundness.{definition_true, box_true, diamond_true}
-use Rattle.law.specs.Verdicts.{handles, ClosedLaw, OnlyForced, Negates}
+use Rattle.law.specs.Verdicts.{handles, ClosedLaw, NegatesNames}
+use Rattle.lists.proofs.Maps.{in_mapped, mapped_in}
 
 in_negations : {b : ModalClause} {bs : List ModalClause} → In b bs → In (negation b.name) (negations bs)
 in_negations here = here
@@ -30,10 +31,11 @@ negations_in [] i = elim i [ ]
 negations_in (b ∷ bs) here = (b, here, refl)
 negations_in (b ∷ bs) (there i) = let (a, j, e) = negations_in bs i in (a, there j, e)
 
-pub handles_in : (st : State) (ks : List ℕ) {x : Literal} → In x (handles st ks) → (k : ℕ) × In k ks × (x ≡ record { atom = handle_of st k; holds = true })
-handles_in st [] i = elim i [ ]
-handles_in st (k ∷ ks) here = (k, here, refl)
-handles_in st (k ∷ ks) (there i) = let (j, h, e) = handles_in st ks i in (j, there h, e)
+pub in_handles : (st : State) {k : ℕ} {ks : List ℕ} → In k ks → In (positive (handle_of st k)) (handles st ks)
+in_handles st i = in_mapped (λ k. positive (handle_of st k)) i
+
+pub handles_in : (st : State) (ks : List ℕ) {x : Literal} → In x (handles st ks) → (k : ℕ) × In k ks × (x ≡ positive (handle_of st k))
+handles_in st ks i = let (k, j, e) = mapped_in (λ k. positive (handle_of st k)) ks i in (k, j, sym e)
 
 -- every entry of the level is forced
 abbrev pub LevelForced : State → ℕ → Type 0
@@ -54,13 +56,13 @@ level_forced st cl l f e i = elim (cases_Bool (is_learnt e)) [
   | inr q ↦ (λ u m w h. definition_true st cl l u m.worlds w e (in_kept is_definition i (ap not q)))
 ]
 
--- the clause that a closed part teaches, over the entries as they are left
-module _ (st : State) (es : ℕ → List Entry) (cl : Clausal (with_entries st es)) (l : ℕ) (v : Valuation) (d : ModalClause) (core : List Literal) (c : Clause) (t : Lesson st l v d core c) where
+-- the clause learnt from a part that has a core, over the entries as they are left
+module _ (st : State) (es : ℕ → List Entry) (cl : Clausal (with_entries st es)) (l : ℕ) (v : Valuation) (d : ModalClause) (core : List Literal) (c : Clause) (t : LearntClause st l v d core c) where
   abbrev after : State
   after = with_entries st es
 
-  pub lesson_forced : LevelForced after (suc l) → CoreOf after (suc l) (part_of st l v d) core → Forced after l c
-  lesson_forced f k u m w h = elim (cases_Bool (makes (at_world after l u m.worlds w) c)) [ inl e ↦ e | inr e ↦ absurd (no e) ]
+  pub learnt_forced : LevelForced after (suc l) → CoreOf after (suc l) (part_of st l v d) core → Forced after l c
+  learnt_forced f k u m w h = elim (cases_Bool (makes (at_world after l u m.worlds w) c)) [ inl e ↦ e | inr e ↦ absurd (no e) ]
     where
       no : makes (at_world after l u m.worlds w) c ≡ false → ⊥
       no e =
@@ -73,21 +75,21 @@ module _ (st : State) (es : ℕ → List Entry) (cl : Clausal (with_entries st e
           (all_made after (suc l) f u m x (successor_inside m w x h j))
 
   -- a literal of the clause denies a name that the valuation has in
-  lesson_literal : {y : Literal} → In y (negation d.name ∷ negations t.boxes) → (n : ℕ) × (y ≡ negation n) × (v n ≡ true) × ((n ≡ d.name) ⊎ ((b : ModalClause) × In b (st.boxes l) × (b.name ≡ n)))
-  lesson_literal here = (d.name, refl, (kept_in _ (st.diamonds l) t.fires).1, inl refl)
-  lesson_literal (there j) = let (b, bi, e) = negations_in t.boxes j in let (q, o) = kept_in _ (st.boxes l) (t.fire b bi) in (b.name, e, o, inr (b, q, refl))
+  literal_from : {y : Literal} → In y (negation d.name ∷ negations t.boxes) → (n : ℕ) × (y ≡ negation n) × (v n ≡ true) × ((n ≡ d.name) ⊎ ((b : ModalClause) × In b (st.boxes l) × (b.name ≡ n)))
+  literal_from here = (d.name, refl, (kept_in _ (st.diamonds l) t.fires).1, inl refl)
+  literal_from (there j) = let (b, bi, e) = negations_in t.boxes j in let (q, o) = kept_in _ (st.boxes l) (t.fire b bi) in (b.name, e, o, inr (b, q, refl))
 
-  -- so it is false under the valuation that taught it
-  pub lesson_new : makes v c ≡ false
-  lesson_new = elim (cases_Bool (makes v c)) [ inr e ↦ e | inl e ↦ (let (x, i, o) = clause_cases v t.is e in let (n, q, p, _) = lesson_literal i in absurd (both_ways _ (ap not p) (ap (obeys_one v) (sym q) ∙ o))) ]
+  -- so it is false under the valuation that it was learnt under
+  pub learnt_new : makes v c ≡ false
+  learnt_new = elim (cases_Bool (makes v c)) [ inr e ↦ e | inl e ↦ (let (x, i, o) = clause_cases v t.is e in let (n, q, p, _) = literal_from i in absurd (both_ways _ (ap not p) (ap (obeys_one v) (sym q) ∙ o))) ]
 
-  pub lesson_negates : Negates after l c
-  lesson_negates = record {
+  pub learnt_negates : NegatesNames after l c
+  learnt_negates = record {
     diamond = d;
     from = (kept_in _ (st.diamonds l) t.fires).0;
     named = t.is.whole (negation d.name) here;
-    others = λ a h e ne. (let (n, q, _, z) = lesson_literal (t.is.within (negation a) h e) in let p : a ≡ n = ap (λ (y : Literal). y.atom) q in elim z [ inl s ↦ absurd (ne (p ∙ s)) | inr (b, bi, s) ↦ (b, bi, s ∙ sym p) ]);
-    nothing = λ a h. elim (cases_Bool (has c.plain a)) [ inr e ↦ e | inl e ↦ (let (n, q, _, _) = lesson_literal (t.is.within (record { atom = a; holds = true }) h e) in absurd (false≢true (sym (ap (λ (y : Literal). y.holds) q)))) ];
+    others = λ a h e ne. (let (n, q, _, z) = literal_from (t.is.within (negation a) h e) in let p : a ≡ n = ap (λ (y : Literal). y.atom) q in elim z [ inl s ↦ absurd (ne (p ∙ s)) | inr (b, bi, s) ↦ (b, bi, s ∙ sym p) ]);
+    no_plain = λ a h. elim (cases_Bool (has c.plain a)) [ inr e ↦ e | inl e ↦ (let (n, q, _, _) = literal_from (t.is.within (positive a) h e) in absurd (false≢true (sym (ap (λ (y : Literal). y.holds) q)))) ];
   }
 
 module _ (st : State) (cl : Clausal st) where
@@ -96,7 +98,7 @@ module _ (st : State) (cl : Clausal st) where
   handle_reads k h u ws w = let (i, _, e, q) = handle_at st k (cl.naming.handled k h) in ap (at_world st 0 u ws w) e ∙ reading_name st 0 i u ws w ∙ ap (reads_name st (u _) ws w) q
 
   -- a core of the handles is a core of the question
-  pub core_closes : (asked core : List ℕ) → OnlyForced st → ((k : ℕ) → In k core → In k asked) → ((k : ℕ) → In k asked → k < length st.rules) → ((v : Valuation) → obeys_all v (handles st core) ≡ true → makes_all v (st.entries 0) ≡ true → ⊥) → ClosedLaw st asked core
+  pub core_closes : (asked core : List ℕ) → ((l : ℕ) (e : Entry) → In e (learnt (st.entries l)) → Forced st l e.clause) → ((k : ℕ) → In k core → In k asked) → ((k : ℕ) → In k asked → k < length st.rules) → ((v : Valuation) → obeys_all v (handles st core) ≡ true → makes_all v (st.entries 0) ≡ true → ⊥) → ClosedLaw st asked core
   core_closes asked core f part held shut = record {
     part = part;
     nowhere = λ m w h all. shut (at_world st 0 (λ _. false) m.worlds w) (every_from _ (handles st core) (λ x i. let (k, j, e) = handles_in st core i in ap (obeys_one (at_world st 0 (λ _. false) m.worlds w)) e ∙ handle_reads k (held k (part k j)) (λ _. false) m.worlds w ∙ all k j)) (all_made st 0 (level_forced st cl 0 (f 0)) (λ _. false) m w h);

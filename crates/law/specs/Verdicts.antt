@@ -1,23 +1,22 @@
 -- What open, closed and full say of a session.
-use Rattle.std.specs.Prelude.{◌≡◌, ℕ, suc, ◌<◌, ◌≤◌, true, false, List, [], ◌∷◌, length, take, ◌≢◌, slice_index_or}
+use Rattle.std.specs.Prelude.{◌≡◌, ℕ, suc, ◌<◌, true, false, List, length, take, ◌≢◌, slice_index_or, map}
 use Rattle.lists.specs.Lists.{In}
 use Rattle.modal.specs.Kripke.{Model, meets}
 use Rattle.modal.specs.Rows.{says}
-use Rattle.atoms.specs.Clauses.{Valuation, makes, makes_all, is_learnt, learnt}
+use Rattle.atoms.specs.Clauses.{Valuation, makes, makes_all, is_learnt, learnt, positive}
 use Rattle.atoms.specs.Sets.{has}
 use Rattle.atoms.specs.declared.clauses.Clause.{Clause}
 use Rattle.atoms.specs.declared.clauses.Entry.{Entry}
 use Rattle.atoms.specs.declared.clauses.Literal.{Literal}
 use Rattle.clausal.specs.Clausal.{Clausal}
-use Rattle.clausal.specs.Questions.{part_of, CannotExist, Allowed, Reaches}
+use Rattle.clausal.specs.Questions.{part_of, CannotExist, Allowed, WorldReached, FewLearnt}
 use Rattle.clausal.specs.States.{State, rule_at, handle_of, obeys_all, fired, Forced}
 use Rattle.clausal.specs.Trees.{Tree, Complete, size, worlds}
 use Rattle.clausal.specs.declared.modal_clauses.ModalClause.{ModalClause}
 
--- the handles of the rules asked, all in
+-- the literals that the handles of the rules asked are in
 abbrev pub handles : State → List ℕ → List Literal
-handles st [] = []
-handles st (k ∷ ks) = record { atom = handle_of st k; holds = true } ∷ handles st ks
+handles st asked = map (λ k. positive (handle_of st k)) asked
 
 -- Open: some complete tree of exactly that many worlds meets every rule asked at its root.
 pub record OpenLaw (st : State) (asked : List ℕ) (count : ℕ) : Type 0 where
@@ -32,39 +31,35 @@ pub record ClosedLaw (st : State) (asked core : List ℕ) : Type 0 where
   pub nowhere : (m : Model) (w : ℕ) → w < length m.worlds → ((k : ℕ) → In k core → meets (says (rule_at st k)) m.worlds w ≡ true) → ⊥
   pub unsatisfiable : (v : Valuation) → obeys_all v (handles st core) ≡ true → makes_all v (st.entries 0) ≢ true
 
--- every learnt clause is forced by the accepted rules
-abbrev pub OnlyForced : State → Type 0
-OnlyForced st = (l : ℕ) (e : Entry) → In e (learnt (st.entries l)) → Forced st l e.clause
-
--- the clause is made of the negations of one diamond's name and of box names of the level
-pub record Negates (st : State) (l : ℕ) (c : Clause) : Type 0 where
+-- the clause is made of negations of names of the level: of one diamond's, and perhaps of boxes'
+pub record NegatesNames (st : State) (l : ℕ) (c : Clause) : Type 0 where
   pub diamond : ModalClause
   pub from : In diamond (st.diamonds l)
   pub named : has c.negated diamond.name ≡ true
   pub others : (a : ℕ) → a < 64 → has c.negated a ≡ true → (a ≢ diamond.name) → (b : ModalClause) × In b (st.boxes l) × (b.name ≡ a)
-  pub nothing : (a : ℕ) → a < 64 → has c.plain a ≡ false
+  pub no_plain : (a : ℕ) → a < 64 → has c.plain a ≡ false
 
--- each learnt entry of the list is false under a valuation that makes all earlier entries true
-abbrev pub Needed : List Entry → Type 0
-Needed es = (i : ℕ) (e : Entry) → i < length es → slice_index_or es i e ≡ e → is_learnt e ≡ true → (v : Valuation) × (makes_all v (take i es) ≡ true) × (makes v e.clause ≡ false)
+-- each learnt entry of the list is false under some valuation that makes all entries before it true
+abbrev pub LearntNeeded : List Entry → Type 0
+LearntNeeded es = (i : ℕ) (e : Entry) → i < length es → slice_index_or es i e ≡ e → is_learnt e ≡ true → (v : Valuation) × (makes_all v (take i es) ≡ true) × (makes v e.clause ≡ false)
 
--- Full: the level holds 128 learnt clauses, each made of such negations and needed when it was learnt; and a world that the question reaches there is still allowed a valuation with a fired diamond whose part cannot exist.
+-- Full: the level holds 128 learnt clauses, each made of negated names and needed when it was learnt; and a world that the question reaches there is still allowed a valuation that fires a diamond whose part cannot exist.
 pub record FullLaw (st : State) (asked : List ℕ) (l : ℕ) : Type 0 where
   pub many : length (learnt (st.entries l)) ≡ 128
-  pub negates : (e : Entry) → In e (learnt (st.entries l)) → Negates st l e.clause
-  pub needed : Needed (st.entries l)
+  pub negates : (e : Entry) → In e (learnt (st.entries l)) → NegatesNames st l e.clause
+  pub needed : LearntNeeded (st.entries l)
   pub literals : List Literal
-  pub reached : Reaches st (handles st asked) l literals
+  pub reached : WorldReached st (handles st asked) l literals
   pub valuation : Valuation
   pub allowed : Allowed st l literals valuation
   pub diamond : ModalClause
   pub fires : In diamond (fired valuation (st.diamonds l))
-  pub lost : CannotExist st (suc l) (part_of st l valuation diamond)
+  pub impossible : CannotExist st (suc l) (part_of st l valuation diamond)
 
--- what every session that calls can leave keeps: its clauses are those of its rules, and what was learnt is forced, made of negated names, needed, and at most 128 at a level
+-- what holds of every session that calls can leave: its clauses are those of its rules, and what was learnt is forced by the rules, made of negated names, needed, and at most 128 at a level
 pub record Sound (st : State) : Type 0 where
   pub clausal : Clausal st
-  pub forced : OnlyForced st
-  pub negates : (l : ℕ) (e : Entry) → In e (learnt (st.entries l)) → Negates st l e.clause
-  pub needed : (l : ℕ) → Needed (st.entries l)
-  pub few : (l : ℕ) → length (learnt (st.entries l)) ≤ 128
+  pub forced : (l : ℕ) (e : Entry) → In e (learnt (st.entries l)) → Forced st l e.clause
+  pub negates : (l : ℕ) (e : Entry) → In e (learnt (st.entries l)) → NegatesNames st l e.clause
+  pub needed : (l : ℕ) → LearntNeeded (st.entries l)
+  pub few : FewLearnt st.entries

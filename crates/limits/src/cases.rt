@@ -2,6 +2,7 @@
 use crate::replies::{Reply, of_adding, of_asking, of_reading};
 use modal::row::Row;
 use modal::rule::Rule;
+use rule_sets::choices;
 use rule_writer::Writer;
 use search::Searcher;
 use session::session::Session;
@@ -15,7 +16,7 @@ pub(crate) enum Case {
     SeventeenRules,
     FortyEightNames,
     FortyNineNames,
-    EightPairs,
+    EightChoices,
 }
 
 impl Case {
@@ -26,7 +27,7 @@ impl Case {
         Case::SeventeenRules,
         Case::FortyEightNames,
         Case::FortyNineNames,
-        Case::EightPairs,
+        Case::EightChoices,
     ];
 
     pub(crate) fn name(self) -> &'static str {
@@ -37,23 +38,22 @@ impl Case {
             Case::SeventeenRules => "the seventeenth",
             Case::FortyEightNames => "a rule that takes 48 names at level 0",
             Case::FortyNineNames => "a rule that takes 49",
-            Case::EightPairs =>
+            Case::EightChoices =>
                 "eight letters, each at every part or at none, and a part that cannot exist",
         }
     }
 
     /// The reply that the definitions give.
     pub(crate) fn due(self) -> Reply {
-        let (number, detail) = match self {
-            Case::SixtyFourRows => return Reply::Read(64),
-            Case::SixteenRules => return Reply::Added(15),
-            Case::FortyEightNames => return Reply::Added(0),
-            Case::SixtyFiveRows => (4, 64),
-            Case::SeventeenRules => (20, 0),
-            Case::FortyNineNames => (21, 0),
-            Case::EightPairs => (22, 0),
-        };
-        Reply::Refused { number, detail }
+        match self {
+            Case::SixtyFourRows => Reply::Read(64),
+            Case::SixtyFiveRows => refused(4, 64),
+            Case::SixteenRules => Reply::Added(15),
+            Case::SeventeenRules => refused(20, 0),
+            Case::FortyEightNames => Reply::Added(0),
+            Case::FortyNineNames => refused(21, 0),
+            Case::EightChoices => refused(22, 0),
+        }
     }
 
     /// The reply of the public calls.
@@ -65,9 +65,13 @@ impl Case {
             Case::SeventeenRules => last_added(heap, 17)?,
             Case::FortyEightNames => added(conjunction(heap, 47)?.rule()?),
             Case::FortyNineNames => added(conjunction(heap, 48)?.rule()?),
-            Case::EightPairs => asked(pairs(heap, 8)?.rule()?)?,
+            Case::EightChoices => asked(choices(8, heap)?.rule()?)?,
         })
     }
+}
+
+fn refused(number: u8, detail: u64) -> Reply {
+    Reply::Refused { number, detail }
 }
 
 fn letters(heap: Global, rows: u8) -> Result<Writer, AllocError> {
@@ -84,22 +88,6 @@ fn conjunction(heap: Global, rows: u8) -> Result<Writer, AllocError> {
     let mut row = w.row(Row::Letter(0))?;
     for _ in 0..rows {
         row = w.row(Row::And(row, 0))?;
-    }
-    Ok(w)
-}
-
-// Each of so many letters at every part, or at none, and a part where nothing may be.
-fn pairs(heap: Global, letters: u8) -> Result<Writer, AllocError> {
-    let mut w = Writer::new(heap);
-    let nothing = w.row(Row::False)?;
-    let mut all = w.row(Row::Diamond(nothing))?;
-    for letter in 0..letters {
-        let letter = w.row(Row::Letter(letter))?;
-        let everywhere = w.row(Row::Box(letter))?;
-        let not = w.row(Row::Not(letter))?;
-        let nowhere = w.row(Row::Box(not))?;
-        let pair = w.row(Row::Or(everywhere, nowhere))?;
-        all = w.row(Row::And(all, pair))?;
     }
     Ok(w)
 }

@@ -28,7 +28,7 @@ impl fmt::Display for Reply {
     }
 }
 
-fn refused<F: Fault + Copy>(fault: F) -> Reply {
+fn of_fault<F: Fault + Copy>(fault: F) -> Reply {
     Reply::Refused {
         number: fault.number(),
         detail: fault.detail(),
@@ -38,14 +38,14 @@ fn refused<F: Fault + Copy>(fault: F) -> Reply {
 pub(crate) fn of_reading(read: Result<Rule, ReadFault>) -> Reply {
     match read {
         Ok(rule) => Reply::Read(rule.rows().len()),
-        Err(fault) => refused(fault),
+        Err(fault) => of_fault(fault),
     }
 }
 
 pub(crate) fn of_adding(added: Result<u8, AddFault>) -> Reply {
     match added {
         Ok(number) => Reply::Added(number),
-        Err(fault) => refused(fault),
+        Err(fault) => of_fault(fault),
     }
 }
 
@@ -53,6 +53,6 @@ pub(crate) fn of_asking(answer: Result<Verdict, QuestionFault>) -> Reply {
     match answer {
         Ok(Verdict::Open(count)) => Reply::Open(count),
         Ok(Verdict::Closed(core)) => Reply::Closed(core),
-        Err(fault) => refused(fault),
+        Err(fault) => of_fault(fault),
     }
 }

@@ -79,9 +79,9 @@ get_or_in [] i d h = absurd (omega arith)
 get_or_in (x ∷ xs) zero d h = here
 get_or_in (x ∷ xs) (suc i) d h = there (get_or_in xs i d (omega arith))
 
-pub in_get_or : {A : Type 0} (d : A) {x : A} {xs : List A} → In x xs → (j : ℕ) × (get_or xs j d ≡ x)
-in_get_or d here = (0, refl)
-in_get_or d (there i) = let (j, e) = in_get_or d i in (suc j, e)
+pub in_get_or : {A : Type 0} (d : A) {x : A} {xs : List A} → In x xs → (j : ℕ) × (j < length xs) × (get_or xs j d ≡ x)
+in_get_or d here = (0, omega arith, refl)
+in_get_or d (there i) = let (j, h, e) = in_get_or d i in (suc j, omega arith, e)
 
 pub in_one : {A : Type 0} {x y : A} → In x (y ∷ []) → y ≡ x
 in_one here = refl
@@ -118,6 +118,13 @@ kept_others p (x ∷ xs) e = go (p x) e (kept_others p xs)
 pub kept_nothing : {A : Type 0} (p : A → Bool) (xs : List A) → ((x : A) → In x xs → p x ≡ false) → filter p xs ≡ []
 kept_nothing p [] h = refl
 kept_nothing p (x ∷ xs) h = rw (h x here) (kept_nothing p xs (λ y i. h y (there i)))
+
+pub kept_all : {A : Type 0} (p : A → Bool) (xs : List A) → ((x : A) → In x xs → p x ≡ true) → filter p xs ≡ xs
+kept_all p [] h = refl
+kept_all p (x ∷ xs) h = rw (h x here) (ap (λ ys. x ∷ ys) (kept_all p xs (λ y i. h y (there i))))
+
+pub kept_twice : {A : Type 0} (p : A → Bool) (xs : List A) → filter p (filter p xs) ≡ filter p xs
+kept_twice p xs = kept_all p (filter p xs) (λ x i. (kept_in p xs i).1)
 
 pub no_members : {A : Type 0} (xs : List A) → ((x : A) → In x xs → ⊥) → xs ≡ []
 no_members [] h = refl

@@ -13,11 +13,14 @@ pub get_or_built : {X : Type 0} (f : List X → Row → X) (xs : List X) (rs : L
 get_or_built f xs [] i d h = refl
 get_or_built f xs (r ∷ rs) i d h = grind (arith, common_steps, get_or_built f (xs ++ f xs r ∷ []) rs i d)
 
-pub built_push : {X : Type 0} (f : List X → Row → X) (xs : List X) (rs : List Row) (r : Row) → built f xs (rs ++ r ∷ []) ≡ built f xs rs ++ f (built f xs rs) r ∷ []
-built_push f xs [] r = refl
-built_push f xs (q ∷ rs) r = built_push f (xs ++ f xs q ∷ []) rs r
+pub built_append : {X : Type 0} (f : List X → Row → X) (xs : List X) (rs qs : List Row) → built f xs (rs ++ qs) ≡ built f (built f xs rs) qs
+built_append f xs [] qs = refl
+built_append f xs (r ∷ rs) qs = built_append f (xs ++ f xs r ∷ []) rs qs
 
-length_built : {X : Type 0} (f : List X → Row → X) (xs : List X) (rs : List Row) → length (built f xs rs) ≡ length xs + length rs
+pub built_push : {X : Type 0} (f : List X → Row → X) (xs : List X) (rs : List Row) (r : Row) → built f xs (rs ++ r ∷ []) ≡ built f xs rs ++ f (built f xs rs) r ∷ []
+built_push f xs rs r = built_append f xs rs (r ∷ [])
+
+pub length_built : {X : Type 0} (f : List X → Row → X) (xs : List X) (rs : List Row) → length (built f xs rs) ≡ length xs + length rs
 length_built f xs [] = omega arith
 length_built f xs (r ∷ rs) = grind (arith, common_steps, length_built f (xs ++ f xs r ∷ []) rs)
 

@@ -1,4 +1,4 @@
--- One step of reading: a row more behind those that are read.
+-- For proofs alone: one step of reading: a row more behind those that are read.
 use Rattle.std.specs.Prelude.{◌≡◌, ℕ, ◌+◌, ◌-◌, ◌<◌, ◌≤◌, List, [], ◌∷◌, ◌++◌, length, drop, slice_index, Ok, Err, Result}
 use Rattle.modal.specs.Format.{body_length, row_of, parse, placed}
 use Rattle.modal.specs.Rows.{depth_of, row_depths}

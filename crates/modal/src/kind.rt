@@ -1,11 +1,14 @@
 // The kinds of rows, and the byte that stands for each.
-ghost use Rattle.std.specs.Prelude.{◌≡◌, ◌<◌, MatchResult};
+ghost use Rattle.std.specs.Prelude.{◌≡◌, ◌<◌, MatchResult, Some, codes};
 ghost use Rattle.modal.specs.Format.{body_length};
 ghost use Rattle.modal.specs.Kinds.{byte_of};
 
+use std::error::Error;
+use std::fmt;
+
 /// What a row is: false, true, a letter, or one of the connectives.
 #[derive(Clone, Copy, PartialEq, Eq, Debug)]
-pub(crate) enum Kind {
+pub enum Kind {
     False,
     True,
     Letter,
@@ -17,8 +20,18 @@ pub(crate) enum Kind {
 }
 
 /// A byte that stands for no kind.
-#[derive(Clone, Copy, Debug)]
-pub(crate) struct NoKind;
+#[derive(Clone, Copy, PartialEq, Eq, Debug)]
+pub struct NoKind;
+
+impl fmt::Display for NoKind {
+    ghost output = { λ _. Some (codes "the kind is over 07") };
+
+    fn fmt<W: fmt::Write>(&self, f: &mut fmt::Formatter<W>) -> fmt::Result {
+        f.write_str("the kind is over 07")
+    }
+}
+
+impl Error for NoKind {}
 
 impl TryFrom<u8> for Kind {
     type Error = NoKind;
@@ -50,8 +63,8 @@ impl From<Kind> for u8 {
 }
 
 impl Kind {
-    // The number of bytes after the kind.
-    pub(crate) fn body_len(self) -> usize
+    /// The number of bytes in the body, which stands behind the kind.
+    pub fn body_len(self) -> usize
         ensures { result ≡ body_length (byte_of self) }
     {
         match self {

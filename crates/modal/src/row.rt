@@ -1,5 +1,6 @@
 // One row of a rule: a formula over the rows before it, by their numbers.
-ghost use Rattle.std.specs.Prelude.{◌≡◌, length, MatchResult, Some};
+ghost use Rattle.std.specs.Prelude.{◌≡◌, MatchResult, Some};
+ghost use Rattle.fixed_list.specs.Items.{items_of};
 ghost use Rattle.modal.specs.Rows.{children_earlier, letter_in_range};
 ghost use Rattle.modal.specs.Format.{bytes_of};
 ghost use Rattle.modal.specs.Kinds.{kind_of};
@@ -8,6 +9,7 @@ ghost use Rattle.modal.specs.Words.{row_words};
 
 use crate::faults::{ReadFault, RowStart};
 use crate::kind::Kind;
+use fixed_list::ArrayVec;
 use std::fmt;
 
 const LAST_LETTER: u8 = 14;
@@ -97,25 +99,22 @@ impl Row {
         }
     }
 
-    // The number of its bytes.
-    pub(crate) fn size(self) -> usize
-        ensures { result ≡ length (bytes_of self) }
+    /// Its bytes: the kind, and the letter or the children.
+    pub fn bytes(self) -> ArrayVec<u8, 3>
+        ensures { items_of result ≡ bytes_of self }
     {
-        1 + self.kind().body_len()
-    }
-
-    // Writes its bytes to a buffer of their number.
-    pub(crate) fn put(self, out: &mut [u8])
-        requires { length out.old ≡ length (bytes_of self) }
-        ensures { out.new ≡ bytes_of self }
-    {
-        let kind = u8::from(self.kind());
+        let mut bytes = ArrayVec::new(0);
+        bytes.push(u8::from(self.kind())).unwrap();
         match self {
-            Row::False | Row::True => out.copy_from_slice(&[kind]),
+            Row::False | Row::True => {}
             Row::Letter(c) | Row::Not(c) | Row::Box(c) | Row::Diamond(c) => {
-                out.copy_from_slice(&[kind, c]);
+                bytes.push(c).unwrap();
             }
-            Row::And(c, e) | Row::Or(c, e) => out.copy_from_slice(&[kind, c, e]),
+            Row::And(c, e) | Row::Or(c, e) => {
+                bytes.push(c).unwrap();
+                bytes.push(e).unwrap();
+            }
         }
+        bytes
     }
 }

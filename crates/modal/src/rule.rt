@@ -112,7 +112,7 @@ fn size(rows: &[Row]) -> usize
     requires { length rows.now ≤ 64 }
     ensures { result ≡ length (written rows.now) }
 {
-    rows.iter().map(|row| row.size()).sum()
+    rows.iter().map(|row| row.bytes().len()).sum()
 }
 
 // Writes the rows' bytes to the start of the buffer.
@@ -122,8 +122,9 @@ fn put_all(rows: &[Row], out: &mut [u8])
     ensures { out.new ≡ written rows.now ++ drop (length (written rows.now)) out.old }
 {
     if let Some((row, others)) = rows.split_first() {
-        let (front, back) = out.split_at_mut(row.size());
-        row.put(front);
+        let bytes = row.bytes();
+        let (front, back) = out.split_at_mut(bytes.len());
+        front.copy_from_slice(bytes.as_slice());
         put_all(others, back);
     }
 }

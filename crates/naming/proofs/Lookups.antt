@@ -1,5 +1,5 @@
 -- The names of a level: what a look-up gives, and the literals of rows over them.
-use Rattle.std.proofs.Common.{◌≡◌, ℕ, ◌+◌, ◌<◌, Bool, true, false, not, cond, ltb, List, length, get_or, Option, Some, None, position, sym, refl, ap, ◌∙◌, arith}
+use Rattle.std.proofs.Common.{◌≡◌, ℕ, ◌+◌, ◌<◌, Bool, true, false, cond, ltb, List, length, get_or, Option, Some, None, position, sym, refl, ap, ◌∙◌, arith}
 use Rattle.std.specs.List.{position_or_len}
 use Rattle.std.specs.Option.{option_map, unwrap_or}
 use Rattle.std.proofs.lemmas.Bool.{lt-ltb, le-ltb, false_from_ne_true, both_ways}
@@ -9,13 +9,12 @@ use Rattle.lists.proofs.Firsts.{first_passes, first_no}
 use Rattle.lists.proofs.Members.{some_from, get_or_in}
 use Rattle.modal.specs.Rows.{lawful}
 use Rattle.modal.specs.declared.row.Row.{Row}
-use Rattle.atoms.specs.declared.clauses.Literal.{Literal}
-use Rattle.modal.specs.declared.row.Row.TheVariants.{False, True, Letter, Not, And, Or, Box, Diamond}
+use Rattle.modal.specs.declared.row.Row.TheVariants.{False}
 use Rattle.clausal.specs.Places.{is_place_of, name_in, literal_of, literals_of}
 use Rattle.clausal.specs.declared.names.Name.{Name}
 use Rattle.clausal.specs.declared.names.Name.TheVariants.{Free as free}
 use Rattle.clausal.proofs.Rows.{RowOk, lawful_rows, literal_is}
-use Rattle.naming.specs.Names.{lit_in}
+use Rattle.naming.specs.Names.{literal_in}
 
 -- where the first name stands that passes a test, in the library's words
 first_place : (p : Name → Bool) (xs : List Name) → first_at p xs ≡ position_or_len p xs
@@ -38,30 +37,10 @@ name_found xs r k s = ap (λ (o : Option ℕ). unwrap_or (option_map (λ i. 16 +
     go true = refl
     go false = refl
 
--- the literal of row k of a rule, by the row
-abbrev pub lit_by : List Name → ℕ → List Row → Bool → ℕ → Row → Literal
-lit_by xs r rows s k False = record { atom = 15; holds = not s }
-lit_by xs r rows s k True = record { atom = 15; holds = s }
-lit_by xs r rows s k (Letter a) = record { atom = a; holds = s }
-lit_by xs r rows s k (Not c) = lit_in xs r rows (not s) c
-lit_by xs r rows s k (And c d) = record { atom = name_in xs r k s; holds = true }
-lit_by xs r rows s k (Or c d) = record { atom = name_in xs r k s; holds = true }
-lit_by xs r rows s k (Box c) = record { atom = name_in xs r k s; holds = true }
-lit_by xs r rows s k (Diamond c) = record { atom = name_in xs r k s; holds = true }
-
-pub lit_is : (xs : List Name) (r : ℕ) (rows : List Row) (s : Bool) (k : ℕ) → lawful rows ≡ true → k < length rows → lit_in xs r rows s k ≡ lit_by xs r rows s k (get_or rows k False)
-unfolding lit_in
-lit_is xs r rows s k ok h = literal_is rows (lawful_rows rows ok) (name_in xs r) _ k s h ∙ go (get_or rows k False)
-  where
-    go : (row : Row) → literal_of (name_in xs r) (literals_of (name_in xs r) rows) k row s ≡ lit_by xs r rows s k row
-    go False = refl
-    go True = refl
-    go (Letter a) = refl
-    go (Not c) = refl
-    go (And c d) = refl
-    go (Or c d) = refl
-    go (Box c) = refl
-    go (Diamond c) = refl
+-- the literal of a row, by the row and the literals of those before it
+pub literal_by_row : (xs : List Name) (r : ℕ) (rows : List Row) (s : Bool) (k : ℕ) → lawful rows ≡ true → k < length rows → literal_in xs r rows s k ≡ literal_of (name_in xs r) (literals_of (name_in xs r) rows) k (get_or rows k False) s
+unfolding literal_in
+literal_by_row xs r rows s k ok h = literal_is rows (lawful_rows rows ok) (name_in xs r) _ k s h
 
 -- a lawful row, by itself
 pub row_ok : (rows : List Row) (k : ℕ) → lawful rows ≡ true → k < length rows → RowOk k (get_or rows k False)

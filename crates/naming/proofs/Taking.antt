@@ -1,7 +1,17 @@
 -- A rule taken in at every level.
+use Rattle.std.specs.Iterator.{Yields}
+use Rattle.std.specs.Iterator.Adapters.{skip_source, skip_count, skip_steps, enumerate_source, enumerate_count, enumerate_steps}
+use Rattle.std.proofs.iter.Yields.{fronts}
+use Rattle.std.specs.Slice.Iter.{iter_rest}
+use Rattle.std.specs.declared.slice.Iter.{Iter}
+use Rattle.std.specs.declared.iter.Enumerate.{Enumerate}
+use Rattle.std.specs.declared.iter.Skip.{Skip}
+use Rattle.std.proofs.lemmas.Iterator.Consumers.{YieldsList-at, YieldsList-from_enumerate, YieldsList-turn, YieldsList-end}
+use Rattle.std.proofs.lemmas.Iterator.Adapters.{YieldsList-from_skip}
+use Rattle.std.proofs.lemmas.Iterator.{YieldsList, YieldsList-from_slice}
 use Rattle.std.proofs.lemmas.Grind.{common_steps}
 use Rattle.std.proofs.lemmas.Bool.Decides.{nat_tests}
-use Rattle.std.proofs.Common.{◌≡◌, ℕ, suc, ◌+◌, ◌<◌, ◌≤◌, List, [], ◌++◌, map, length, get_or, set, drop, sym, refl, ap, ◌∙◌, subst, subst₂, ap₂, inl, inr, arith}
+use Rattle.std.proofs.Common.{◌≡◌, ℕ, suc, ◌+◌, ◌<◌, ◌≤◌, List, [], ◌++◌, map, length, get_or, set, drop, sym, refl, ap, ◌∙◌, subst, subst₂, ap₂, inl, inr, arith, Option, Some, None, Bor}
 use Rattle.std.proofs.lemmas.List.{get_or_past, get_or_default, get_or-drop, drop_at, length-drop, length-map}
 use Rattle.std.proofs.lemmas.List.FromFn.{length-enumerate_from, get_or-enumerate_from}
 use Rattle.std.specs.List.{enumerate_from}
@@ -10,45 +20,56 @@ use Rattle.clausal.proofs.Rows.{Lawful}
 use Rattle.clausal.specs.Clausal.{boxed, diamonded, gather}
 use Rattle.clausal.specs.declared.names.Name.{Name}
 use Rattle.clausal.specs.declared.names.Name.TheVariants.{Free as free}
-use Rattle.naming.proofs.Named.{Mine, own_beyond, own_in}
-use Rattle.naming.specs.Names.{InRule, clauses_own, modal_own, names_for}
-use Rattle.naming.specs.TakenIn.{TakenAt}
+use Rattle.naming.proofs.OwnNames.{OwnName, names_beyond, names_own}
+use Rattle.naming.specs.Names.{names_for}
+use Rattle.naming.specs.TakenIn.{TakenAt, NameInRule, clauses_of_name, modals_of_name}
 use Rattle.fixed_list.specs.Items.{items_of}
 use Rattle.fixed_list.specs.declared.ArrayVec.{ArrayVec}
 use Rattle.naming.specs.Levels.{LevelLists, no_lists, lists_of, lists_at, names_at, level_items}
 use Rattle.naming.specs.declared.level_table.LevelTable.{LevelTable}
-use Rattle.naming.proofs.Every.{level_beyond, read_set, read_other}
+use Rattle.naming.proofs.AtLevel.{level_beyond, read_set, read_other}
 use Rattle.atoms.specs.declared.clauses.Clause.{Clause}
 use Rattle.lists.proofs.Members.{get_or_in}
 use Rattle.modal.specs.declared.row.Row.{Row}
 
 module _ (r : ℕ) (rows : List Row) (ok : Lawful rows) (l : ℕ) where
-  mine_in : (x : Name) → Mine r rows l x → InRule rows x
-  mine_in v1 v2 = grind (arith, common_steps, nat_tests)
+  own_in_rule : (x : Name) → OwnName r rows l x → NameInRule rows x
+  own_in_rule v1 v2 = grind (arith, common_steps, nat_tests)
 
-  pub own_rule : (i : ℕ) → InRule rows (get_or (names_for r rows l) i free)
-  own_rule i = elim (cases_lt i (length (names_for r rows l))) [
-    | inl k ↦ mine_in _ (own_in r rows l (get_or_in (names_for r rows l) i free k))
-    | inr k ↦ subst (InRule rows) (sym (get_or_past (names_for r rows l) i free k)) tt
+  pub name_in_rule : (i : ℕ) → NameInRule rows (get_or (names_for r rows l) i free)
+  name_in_rule i = elim (cases_lt i (length (names_for r rows l))) [
+    | inl k ↦ own_in_rule _ (names_own r rows l (get_or_in (names_for r rows l) i free k))
+    | inr k ↦ subst (NameInRule rows) (sym (get_or_past (names_for r rows l) i free k)) tt
   ]
 
 -- the names from the old length on are the new ones
 pub taken_names : (n n' o : List Name) (m : ℕ) → m ≡ length n → n' ≡ n ++ o → drop m n' ≡ o
 taken_names n n' o m e q = ap₂ drop e q ∙ drop_at n o (length n) refl
 
--- the n-th item that comes from a list gone over with its indices, but for the first m
-pub indexed_item : {A : Type 0} (m n : ℕ) (xs : List A) (p : ℕ × A) (d : A) → n < length (drop m (enumerate_from 0 xs)) → p ≡ get_or (drop m (enumerate_from 0 xs)) n p → (n < length (drop m xs)) × (p.0 ≡ m + n) × (get_or (drop m xs) n d ≡ p.1)
-indexed_item {A = A} m n xs p d h e =
-    let all : length (enumerate_from 0 xs) ≡ length xs = length-enumerate_from 0 xs in
-    let within : m + n < length xs = omega (arith, length-drop m (enumerate_from 0 xs)) in
-    let q : p ≡ (0 + (m + n), get_or xs (m + n) p.1) = e ∙ get_or-drop m (enumerate_from 0 xs) n p ∙ get_or-enumerate_from 0 xs (m + n) p within in
-    (omega (arith, length-drop m xs), ap (λ (z : ℕ × A). z.0) q ∙ omega arith, get_or-drop m xs n d ∙ get_or_default xs (m + n) d p.1 within ∙ sym (ap (λ (z : ℕ × A). z.1) q))
+-- what comes from a slice gone over with its indices, but for the first m
+pub indexed_come : {A : Type 0} {s : Iter A} {e : Enumerate (Iter A)} {k i : Skip (Enumerate (Iter A))} (m : ℕ) (xs : List A) → iter_rest s ≡ xs → enumerate_source e ≡ s → enumerate_count e ≡ 0 → skip_source k ≡ e → skip_count k ≡ m → i ≡ k
+    → YieldsList {B = ℕ × A} (skip_steps (enumerate_steps fronts)) (λ p. (p.0, p.1.now)) i (drop m (enumerate_from 0 xs))
+indexed_come m xs rest source zero_count skips count at = YieldsList-at at (YieldsList-from_skip m (YieldsList-at skips (YieldsList-from_enumerate (YieldsList-at source (YieldsList-from_slice xs rest)) zero_count)) count)
+
+module _ {A : Type 0} {i : Skip (Enumerate (Iter A))} {r : Option (ℕ × Bor A)} (m : ℕ) (xs : List A) (t u : Skip (Enumerate (Iter A))) (come : YieldsList {B = ℕ × A} (skip_steps (enumerate_steps fronts)) (λ p. (p.0, p.1.now)) i (drop m (enumerate_from 0 xs))) (ys : List (ℕ × Bor A)) (y : Yields (skip_steps (enumerate_steps fronts)) i ys t) (step : skip_steps (enumerate_steps fronts) t r u) where
+  pub indexed_turn : (p : ℕ × Bor A) (d : A) → r ≡ Some p → (length ys < length (drop m xs)) × (p.0 ≡ m + length ys) × (get_or (drop m xs) (length ys) d ≡ p.1.now)
+  indexed_turn p d e =
+      let n = length ys in
+      let x : A = p.1.now in
+      let (h, g) = YieldsList-turn come ys t y r u p e step in
+      let all : length (enumerate_from 0 xs) ≡ length xs = length-enumerate_from 0 xs in
+      let inside : m + n < length xs = omega (arith, length-drop m (enumerate_from 0 xs)) in
+      let q : ◌≡◌ {A = ℕ × A} (p.0, x) (0 + (m + n), get_or xs (m + n) x) = g ∙ get_or-drop m (enumerate_from 0 xs) n (p.0, x) ∙ get_or-enumerate_from 0 xs (m + n) (p.0, x) inside in
+      (omega (arith, length-drop m xs), ap (λ (z : ℕ × A). z.0) q ∙ omega arith, get_or-drop m xs n d ∙ get_or_default xs (m + n) d x inside ∙ sym (ap (λ (z : ℕ × A). z.1) q))
+
+  pub indexed_end : r ≡ None → length (drop m xs) ≤ length ys
+  indexed_end e = let end = YieldsList-end come ys t y r u e step in omega (arith, end.1, length-drop m xs, length-drop m (enumerate_from 0 xs), length-enumerate_from 0 xs)
 
 -- beyond the last level nothing is taken
 pub taken_beyond : (r : ℕ) (rows : List Row) → Lawful rows → (l : ℕ) (further : List Name) → 8 ≤ l → TakenAt r rows l further no_lists no_lists []
 taken_beyond r rows ok l further h =
-    let e : names_for r rows l ≡ [] = own_beyond r rows ok l h in
-    record { names = sym e; room = omega arith; boxes = sym (ap (gather (modal_own boxed further r rows) 16) e); diamonds = sym (ap (gather (modal_own diamonded further r rows) 16) e); clauses = sym (ap (gather (clauses_own [] r rows) 16) e) }
+    let e : names_for r rows l ≡ [] = names_beyond r rows ok l h in
+    record { names = sym e; room = omega arith; boxes = sym (ap (gather (modals_of_name boxed further r rows) 16) e); diamonds = sym (ap (gather (modals_of_name diamonded further r rows) 16) e); clauses = sym (ap (gather (clauses_of_name [] r rows) 16) e) }
 
 pub beyond_taken : (r : ℕ) (rows : List Row) → Lawful rows → (ts : List LevelTable) (vs : List (ArrayVec Clause 96)) → length ts ≡ 8 → length vs ≡ 8 → (k : ℕ) → 8 ≤ k → TakenAt r rows k (names_at ts (suc k)) (lists_at ts k) (lists_at ts k) (level_items vs k)
 beyond_taken r rows ok ts vs e q k h =

@@ -1,51 +1,26 @@
 -- A walk over the places of a rule: what it keeps, and where it ends.
--- how many are marked
 use Rattle.std.proofs.lemmas.Grind.{common_steps}
 use Rattle.std.proofs.lemmas.Bool.Decides.{nat_tests}
-use Rattle.std.proofs.Common.{◌≡◌, ℕ, zero, suc, ◌+◌, ◌<◌, ◌≤◌, Bool, true, false, cond, ltb, not, ◌⊎◌, List, [], ◌∷◌, ◌++◌, length, get_or, set, replicate, sym, refl, ◌∙◌, subst, inl, inr, arith}
-use mathlib.Core.Bool.{false≢true}
+use Rattle.std.proofs.Common.{◌≡◌, ℕ, suc, ◌+◌, ◌<◌, Bool, true, false, cond, not, ◌⊎◌, List, [], ◌∷◌, ◌++◌, length, get_or, set, replicate, sym, refl, ◌∙◌, subst, inl, inr, arith}
 use Rattle.std.proofs.lemmas.List.{get_or-set_same, get_or-set_other, length-set, get_or_past, length-replicate}
-use Rattle.std.proofs.lemmas.Bool.{cases_eq, cases_lt, both_ways, lt-ltb, cond-true}
+use Rattle.std.proofs.lemmas.Bool.{cases_eq, cases_lt, both_ways}
 use Rattle.clausal.proofs.Rows.{Lawful, reached_ok}
-use Rattle.clausal.specs.Places.{Reached, last, leads, next}
+use Rattle.clausal.specs.Places.{Reached, last, last_of, leads, leads_of, next}
 use Rattle.clausal.specs.declared.places.Place.{Place}
-use Rattle.naming.proofs.Places.{Within, number_small, place_back, within}
-use Rattle.naming.proofs.Ordered.{marks_reached}
-use Rattle.naming.specs.Marks.{Marks, marked}
+use Rattle.naming.proofs.Places.{number_small, place_back, within}
+use Rattle.naming.proofs.NamedPlaces.{marks_reached}
+use Rattle.naming.specs.Marks.{MarksReached}
 use Rattle.naming.specs.Numbers.{number_of, place_numbered}
-use Rattle.naming.specs.Walk.{Walking, last_of, leads_of}
+use Rattle.naming.specs.Walk.{WalkInvariant}
 use Rattle.lists.proofs.Members.{in_either, in_left, in_one, in_right}
 use Rattle.lists.specs.Lists.{In, here, there}
 use Rattle.modal.specs.declared.row.Row.{Row}
 use Rattle.modal.specs.declared.row.Row.TheVariants.{And, Box, Diamond, False, Letter, Not, Or, True}
 
-pub marked_le : (m : List Bool) → marked m ≤ length m
-marked_le [] = omega arith
-marked_le (true ∷ m) = let h = marked_le m in omega arith
-marked_le (false ∷ m) = let h = marked_le m in omega arith
-
-pub marked_lt : (m : List Bool) (n : ℕ) → n < length m → get_or m n false ≡ false → marked m < length m
-marked_lt [] n h e = absurd (omega arith)
-marked_lt (true ∷ m) zero h e = absurd (false≢true (sym e))
-marked_lt (false ∷ m) zero h e = let k = marked_le m in omega arith
-marked_lt (true ∷ m) (suc n) h e = let k = marked_lt m n (omega arith) e in omega arith
-marked_lt (false ∷ m) (suc n) h e = let k = marked_lt m n (omega arith) e in omega arith
-
-pub marked_more : (m : List Bool) (n : ℕ) → n < length m → get_or m n false ≡ false → marked (set m n true) ≡ marked m + 1
-marked_more [] n h e = absurd (omega arith)
-marked_more (true ∷ m) zero h e = absurd (false≢true (sym e))
-marked_more (false ∷ m) zero h e = omega arith
-marked_more (true ∷ m) (suc n) h e = let k = marked_more m n (omega arith) e in omega arith
-marked_more (false ∷ m) (suc n) h e = let k = marked_more m n (omega arith) e in omega arith
-
--- a stack with an entry for some of the marked numbers has room for one that is not marked
-pub put : (m : List Bool) (n : ℕ) (s t slots : List ℕ) → n < length m → get_or m n false ≡ false → length slots ≡ length m → length s ≤ marked m → t ≡ cond (ltb (length s) (length slots)) (s ++ n ∷ []) s → t ≡ s ++ n ∷ []
-put m n s t slots h f e l p = let k = marked_lt m n h f in p ∙ cond-true _ _ _ (lt-ltb (length s) (length slots) (omega arith))
-
 none_marked : (n k : ℕ) → get_or (replicate n false) k false ≡ false
 none_marked n k = grind (arith, common_steps, nat_tests)
 
-pub begun : (rows : List Row) → Walking rows (last_of rows ∷ []) (replicate 1024 false) []
+pub begun : (rows : List Row) → WalkInvariant rows (last_of rows ∷ []) (replicate 1024 false) []
 begun rows = record {
   size = length-replicate 1024 false;
   only = λ n e. absurd (both_ways _ (none_marked 1024 n) e);
@@ -56,7 +31,7 @@ begun rows = record {
 }
 
 module _ (rows : List Row) (ok : Lawful rows) where
-  module _ (p : Place) (ps : List Place) (m : List Bool) (s : List ℕ) (w : Walking rows (p ∷ ps) m s) where
+  module _ (p : Place) (ps : List Place) (m : List Bool) (s : List ℕ) (w : WalkInvariant rows (p ∷ ps) m s) where
     small : number_of p < length m
     small = let f = within rows ok (w.due p here) in omega (arith, number_small p f.row f.level, w.size)
 
@@ -82,7 +57,7 @@ module _ (rows : List Row) (ok : Lawful rows) where
     new_shut true e = old_shut true (number_of p) e
     new_shut false e = inl (in_right s here)
 
-    pub visited : Walking rows ps (set m (number_of p) true) (cond (get_or m (number_of p) false) s (s ++ (number_of p ∷ [])))
+    pub visited : WalkInvariant rows ps (set m (number_of p) true) (cond (get_or m (number_of p) false) s (s ++ (number_of p ∷ [])))
     visited = record {
       size = length-set m (number_of p) true ∙ w.size;
       only = λ k e. elim (cases_eq k (number_of p)) [ inl q ↦ rw (q, place_back p (within rows ok (w.due p here)).row) (w.due p here) | inr q ↦ w.only k (sym (get_or-set_other m (number_of p) k true false q) ∙ e) ];
@@ -97,11 +72,11 @@ module _ (rows : List Row) (ok : Lawful rows) where
         listed false k i = elim (in_either s _ i) [ inl j ↦ keep k (w.listed k j) | inr j ↦ rw (← in_one j) (get_or-set_same m (number_of p) true false small) ]
 
   -- a place comes off the stack, and what it leads to is due
-  module _ (n : ℕ) (m : List Bool) (s : List ℕ) (w : Walking rows [] m (s ++ (n ∷ []))) where
+  module _ (n : ℕ) (m : List Bool) (s : List ℕ) (w : WalkInvariant rows [] m (s ++ (n ∷ []))) where
     on : Reached rows (place_numbered n)
     on = w.only n (w.listed n (in_right s here))
 
-    pub popped : Walking rows (leads_of rows (place_numbered n)) m s
+    pub popped : WalkInvariant rows (leads_of rows (place_numbered n)) m s
     popped = record {
       size = w.size;
       only = w.only;
@@ -117,7 +92,7 @@ module _ (rows : List Row) (ok : Lawful rows) where
     pub top_row : (place_numbered n).row < length rows
     top_row = (reached_ok rows ok on).0
 
-  pub ended : (m : List Bool) → Walking rows [] m [] → Marks rows m
+  pub ended : (m : List Bool) → WalkInvariant rows [] m [] → MarksReached rows m
   ended m w = marks_reached rows ok m w.only (λ p r. all r)
     where
       all : {p : Place} → Reached rows p → get_or m (number_of p) false ≡ true
@@ -128,42 +103,39 @@ module _ (rows : List Row) (ok : Lawful rows) where
       ]
 
 -- the places that are due, by the row that leads to them, which is read at k
-module _ (rows : List Row) (p : Place) (m : List Bool) (s : List ℕ) (h : p.row < length rows) (k : ℕ) (e : k ≡ p.row) (w : Walking rows (leads_of rows p) m s) where
-  due_by : (r : Row) → get_or rows k False ≡ r → Walking rows (leads r p.plus p.level) m s
+module _ (rows : List Row) (p : Place) (m : List Bool) (s : List ℕ) (h : p.row < length rows) (k : ℕ) (e : k ≡ p.row) (w : WalkInvariant rows (leads_of rows p) m s) where
+  due_by : (r : Row) → get_or rows k False ≡ r → WalkInvariant rows (leads r p.plus p.level) m s
   due_by r q = grind (arith, common_steps, nat_tests)
 
-  pub due_none : (get_or rows k False ≡ False) ⊎ ((get_or rows k False ≡ True) ⊎ ((x : ℕ) × (get_or rows k False ≡ Letter x))) → Walking rows [] m s
+  pub due_none : (get_or rows k False ≡ False) ⊎ ((get_or rows k False ≡ True) ⊎ ((x : ℕ) × (get_or rows k False ≡ Letter x))) → WalkInvariant rows [] m s
   due_none v1 = grind (arith, common_steps, nat_tests)
 
-  pub due_not : (c : ℕ) → get_or rows k False ≡ Not c → Walking rows (record { row = c; plus = not p.plus; level = p.level } ∷ []) m s
+  pub due_not : (c : ℕ) → get_or rows k False ≡ Not c → WalkInvariant rows (record { row = c; plus = not p.plus; level = p.level } ∷ []) m s
   due_not c q = due_by (Not c) q
 
-  pub due_two : (c d : ℕ) → (get_or rows k False ≡ And c d) ⊎ (get_or rows k False ≡ Or c d) → Walking rows (record { row = c; plus = p.plus; level = p.level } ∷ (record { row = d; plus = p.plus; level = p.level } ∷ [])) m s
+  pub due_two : (c d : ℕ) → (get_or rows k False ≡ And c d) ⊎ (get_or rows k False ≡ Or c d) → WalkInvariant rows (record { row = c; plus = p.plus; level = p.level } ∷ (record { row = d; plus = p.plus; level = p.level } ∷ [])) m s
   due_two v1 v2 v3 = grind (arith, common_steps, nat_tests)
 
-  one_on : (c : ℕ) → Walking rows (record { row = c; plus = p.plus; level = suc p.level } ∷ []) m s → Walking rows (record { row = c; plus = p.plus; level = p.level + 1 } ∷ []) m s
-  one_on c v = let z : suc p.level ≡ p.level + 1 = omega arith in subst (λ (l : ℕ). Walking rows (record { row = c; plus = p.plus; level = l } ∷ []) m s) z v
+  one_on : (c : ℕ) → WalkInvariant rows (record { row = c; plus = p.plus; level = suc p.level } ∷ []) m s → WalkInvariant rows (record { row = c; plus = p.plus; level = p.level + 1 } ∷ []) m s
+  one_on c v = let z : suc p.level ≡ p.level + 1 = omega arith in subst (λ (l : ℕ). WalkInvariant rows (record { row = c; plus = p.plus; level = l } ∷ []) m s) z v
 
-  pub due_modal : (c : ℕ) → (get_or rows k False ≡ Box c) ⊎ (get_or rows k False ≡ Diamond c) → Walking rows (record { row = c; plus = p.plus; level = p.level + 1 } ∷ []) m s
+  pub due_modal : (c : ℕ) → (get_or rows k False ≡ Box c) ⊎ (get_or rows k False ≡ Diamond c) → WalkInvariant rows (record { row = c; plus = p.plus; level = p.level + 1 } ∷ []) m s
   due_modal c (inl q) = one_on c (due_by (Box c) q)
   due_modal c (inr q) = one_on c (due_by (Diamond c) q)
 
 -- a visit as the code makes it
-pub visits : (rows : List Row) → Lawful rows → (p : Place) (ps : List Place) (m m' : List Bool) (s s' : List ℕ) → m' ≡ set m (number_of p) true → s' ≡ cond (get_or m (number_of p) false) s (s ++ (number_of p ∷ [])) → Walking rows (p ∷ ps) m s → Walking rows ps m' s'
+pub visits : (rows : List Row) → Lawful rows → (p : Place) (ps : List Place) (m m' : List Bool) (s s' : List ℕ) → m' ≡ set m (number_of p) true → s' ≡ cond (get_or m (number_of p) false) s (s ++ (number_of p ∷ [])) → WalkInvariant rows (p ∷ ps) m s → WalkInvariant rows ps m' s'
 visits rows ok p ps m m' s s' a b w = rw (a, b) (visited rows ok p ps m s w)
 
-pub due_within : (rows : List Row) → Lawful rows → (p : Place) (ps : List Place) (m : List Bool) (s : List ℕ) → Walking rows (p ∷ ps) m s → Within p
-due_within rows ok p ps m s w = within rows ok (w.due p here)
-
-pub begun_by : (rows : List Row) (s : List ℕ) → s ≡ [] → Walking rows (last_of rows ∷ []) (replicate 1024 false) s
+pub begun_by : (rows : List Row) (s : List ℕ) → s ≡ [] → WalkInvariant rows (last_of rows ∷ []) (replicate 1024 false) s
 begun_by rows s e = rw e (begun rows)
 
-pub ended_by : (rows : List Row) → Lawful rows → (m : List Bool) (s : List ℕ) → s ≡ [] → Walking rows [] m s → Marks rows m
+pub ended_by : (rows : List Row) → Lawful rows → (m : List Bool) (s : List ℕ) → s ≡ [] → WalkInvariant rows [] m s → MarksReached rows m
 ended_by rows ok m s e w = ended rows ok m (rw e at w)
 
 -- a turn of the walk begins
-module _ (rows : List Row) (ok : Lawful rows) (n k : ℕ) (m : List Bool) (t s : List ℕ) (e : t ≡ s ++ (n ∷ [])) (q : k ≡ n) (w : Walking rows [] m t) where
-  at_top : Walking rows [] m (s ++ (k ∷ []))
+module _ (rows : List Row) (ok : Lawful rows) (n k : ℕ) (m : List Bool) (t s : List ℕ) (e : t ≡ s ++ (n ∷ [])) (q : k ≡ n) (w : WalkInvariant rows [] m t) where
+  at_top : WalkInvariant rows [] m (s ++ (k ∷ []))
   at_top = rw (q, ← e) w
 
   pub turn_small : k < 1024
@@ -172,5 +144,5 @@ module _ (rows : List Row) (ok : Lawful rows) (n k : ℕ) (m : List Bool) (t s :
   pub turn_row : (p : Place) → p ≡ place_numbered k → p.row < length rows
   turn_row p z = subst (λ (x : Place). x.row < length rows) (sym z) (top_row rows ok k m s at_top)
 
-  pub turn_due : (p : Place) → p ≡ place_numbered k → Walking rows (leads_of rows p) m s
-  turn_due p z = subst (λ (x : Place). Walking rows (leads_of rows x) m s) (sym z) (popped rows ok k m s at_top)
+  pub turn_due : (p : Place) → p ≡ place_numbered k → WalkInvariant rows (leads_of rows p) m s
+  turn_due p z = subst (λ (x : Place). WalkInvariant rows (leads_of rows x) m s) (sym z) (popped rows ok k m s at_top)

@@ -1,4 +1,4 @@
--- What stands at each level; beyond the last there is nothing.
+-- What a table's parts hold, in the words of the logic: what stands at each level, and the rules. Beyond the last level there is nothing.
 use Rattle.std.specs.Prelude.{ℕ, List, [], map, slice_index_or}
 use Rattle.modal.specs.Rules.{listed}
 use Rattle.modal.specs.declared.row.Row.{Row}

@@ -1,4 +1,4 @@
--- The numbers of places: level by level, row by row, plus before minus.
+-- For proofs alone: the numbers of places: level by level, row by row, plus before minus.
 use Rattle.std.specs.Prelude.{ℕ, ◌+◌, ◌*◌, ◌/◌, ◌%◌, cond, ◌==◌}
 use Rattle.clausal.specs.declared.places.Place.{Place}
 

@@ -1,4 +1,4 @@
--- What a table holds, in the words of the logic, and what it promises.
+-- What a table promises: all that the contracts of its calls cite, over the words of `clausal`.
 use Rattle.std.specs.Prelude.{◌≡◌, ℕ, ◌<◌, List, [], ◌++◌, map, length, Ok, Err, Result, slice_index_or}
 use Rattle.lists.specs.Lists.{Matches}
 use Rattle.modal.specs.declared.row.Row.{Row}
@@ -7,7 +7,7 @@ use Rattle.atoms.specs.declared.clauses.Clause.{Clause}
 use Rattle.atoms.specs.declared.clauses.Entry.{Entry}
 use Rattle.atoms.specs.declared.clauses.Mark.TheVariants.{Definition}
 use Rattle.clausal.specs.Adding.{Fresh, Adds}
-use Rattle.clausal.specs.Clausal.{Writes, start}
+use Rattle.clausal.specs.Clausal.{EntryOf, first_clauses}
 use Rattle.clausal.specs.States.{State, handle_of}
 use Rattle.clausal.specs.declared.faults.AddFault.{AddFault}
 use Rattle.clausal.specs.declared.modal_clauses.ModalClause.{ModalClause}
@@ -39,30 +39,30 @@ abbrev pub definition : Clause → Entry
 definition c = record { clause = c; mark = Definition }
 
 -- each level holds the clause "atom 15", marked definition, and nothing else
-pub record Started (es : ℕ → List Entry) : Type 0 where
+pub record StartEntries (es : ℕ → List Entry) : Type 0 where
   pub defined : (l : ℕ) → learnt (es l) ≡ []
-  pub entries : (l : ℕ) → Matches Writes (start l) (es l)
+  pub entries : (l : ℕ) → Matches EntryOf (first_clauses l) (es l)
 
 -- a table with nothing in it is that of a new session
 abbrev pub NewTable : Table → Type 0
-NewTable t = (es : ℕ → List Entry) → Started es → Fresh (view_of t es)
+NewTable t = (es : ℕ → List Entry) → StartEntries es → Fresh (view_of t es)
 
 abbrev pub number_in : Result Added AddFault → Result ℕ AddFault
 number_in (Ok added) = Ok added.number
 number_in (Err fault) = Err fault
 
 -- a rule that is added is taken in, with its definitions after the entries of any oracle; a refusal leaves the table as it was
-abbrev pub TakesIn : Table → List Row → Table → Result Added AddFault → Type 0
-TakesIn before rows after (Ok added) = (es : ℕ → List Entry) → Adds (view_of before es) rows (view_of after (λ l. es l ++ map definition (definitions_at added.definitions l)))
-TakesIn before rows after (Err fault) = after ≡ before
+abbrev pub AddsRule : Table → List Row → Table → Result Added AddFault → Type 0
+AddsRule before rows after (Ok added) = (es : ℕ → List Entry) → Adds (view_of before es) rows (view_of after (λ l. es l ++ map definition (definitions_at added.definitions l)))
+AddsRule before rows after (Err fault) = after ≡ before
 
 -- the rule with the number is held, and has these rows
-pub record HeldAs (rules : List (List Row)) (number : ℕ) (rows : List Row) : Type 0 where
+pub record HasRows (rules : List (List Row)) (number : ℕ) (rows : List Row) : Type 0 where
   pub held : number < length rules
   pub is : slice_index_or rules number [] ≡ rows
 
 -- the rule with the number is held, and has this handle
-pub record HandleIs (t : Table) (number atom : ℕ) : Type 0 where
+pub record HasHandle (t : Table) (number atom : ℕ) : Type 0 where
   pub held : number < length (rules_in t)
   pub is : atom ≡ handle_of (view_of t (λ _. [])) number
   pub small : atom < 64

@@ -5,9 +5,9 @@ ghost use Rattle.atoms.specs.Clauses.{clause_from};
 ghost use Rattle.clausal.specs.Clausal.{boxed, diamonded, defines, modals};
 ghost use Rattle.clausal.specs.Counting.{count_of_names};
 ghost use Rattle.naming.specs.Levels.{lists_of, no_lists, lists_at};
-ghost use Rattle.naming.specs.Names.{clauses_own, modal_own, lit_in, InRule, ShapeInRule};
+ghost use Rattle.naming.specs.Names.{literal_in};
 ghost use Rattle.naming.specs.Tables.{definitions_at};
-ghost use Rattle.naming.specs.TakenIn.{TakenAt, TakenIn};
+ghost use Rattle.naming.specs.TakenIn.{TakenAt, TakenIn, clauses_of_name, modals_of_name, NameInRule, ShapeInRule};
 
 use crate::clauses::{implies, implies_either};
 use crate::counts::NAMES;
@@ -69,9 +69,9 @@ impl LevelTable {
         requires boxes { length (items_of self.old.boxes) < 48 }
         requires diamonds { length (items_of self.old.diamonds) < 48 }
         ensures names { self.new.names ≡ self.old.names }
-        ensures definitions { items_of definitions.new ≡ items_of definitions.old ++ map clause_from (defines n (lit_in (items_of self.old.names) rule.now.number rule.now.rows.now plus) shape) }
-        ensures boxes { items_of self.new.boxes ≡ items_of self.old.boxes ++ modals n (lit_in (items_of further.now) rule.now.number rule.now.rows.now plus) (boxed shape) }
-        ensures diamonds { items_of self.new.diamonds ≡ items_of self.old.diamonds ++ modals n (lit_in (items_of further.now) rule.now.number rule.now.rows.now plus) (diamonded shape) }
+        ensures definitions { items_of definitions.new ≡ items_of definitions.old ++ map clause_from (defines n (literal_in (items_of self.old.names) rule.now.number rule.now.rows.now plus) shape) }
+        ensures boxes { items_of self.new.boxes ≡ items_of self.old.boxes ++ modals n (literal_in (items_of further.now) rule.now.number rule.now.rows.now plus) (boxed shape) }
+        ensures diamonds { items_of self.new.diamonds ≡ items_of self.old.diamonds ++ modals n (literal_in (items_of further.now) rule.now.number rule.now.rows.now plus) (diamonded shape) }
     {
         let names = &self.names;
         let here = |c: u8| rule.literal(names, c, plus);
@@ -107,14 +107,14 @@ impl LevelTable {
         name: Name,
         definitions: &mut LevelClauses,
     )
-        requires name { InRule rule.now.rows.now name }
+        requires name { NameInRule rule.now.rows.now name }
         requires definitions { length (items_of definitions.old) + 2 ≤ 96 }
         requires boxes { length (items_of self.old.boxes) < 48 }
         requires diamonds { length (items_of self.old.diamonds) < 48 }
         ensures names { self.new.names ≡ self.old.names }
-        ensures definitions { items_of definitions.new ≡ items_of definitions.old ++ clauses_own (items_of self.old.names) rule.now.number rule.now.rows.now n name }
-        ensures boxes { items_of self.new.boxes ≡ items_of self.old.boxes ++ modal_own boxed (items_of further.now) rule.now.number rule.now.rows.now n name }
-        ensures diamonds { items_of self.new.diamonds ≡ items_of self.old.diamonds ++ modal_own diamonded (items_of further.now) rule.now.number rule.now.rows.now n name }
+        ensures definitions { items_of definitions.new ≡ items_of definitions.old ++ clauses_of_name (items_of self.old.names) rule.now.number rule.now.rows.now n name }
+        ensures boxes { items_of self.new.boxes ≡ items_of self.old.boxes ++ modals_of_name boxed (items_of further.now) rule.now.number rule.now.rows.now n name }
+        ensures diamonds { items_of self.new.diamonds ≡ items_of self.old.diamonds ++ modals_of_name diamonded (items_of further.now) rule.now.number rule.now.rows.now n name }
     {
         match name {
             Name::Free => {}
@@ -157,7 +157,7 @@ impl LevelTable {
 
 // Takes in a rule, and writes its definitions at each level. It goes from the last level up, since the box and diamond
 // clauses of a level are over the names of the level after it; after the last there are none.
-#[tactic(auto, using(crate::proofs::Every::level_read))]
+#[tactic(auto, using(crate::proofs::AtLevel::level_read))]
 pub(crate) fn take_in(
     levels: &mut [LevelTable; LEVELS],
     rule: &ReachedRule,

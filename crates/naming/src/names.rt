@@ -3,13 +3,14 @@ ghost use Rattle.std.specs.Prelude.{◌≡◌, ◌+◌, ◌<◌, ◌≤◌, ◌+
 ghost use Rattle.std.specs.Option.{option_map};
 ghost use Rattle.fixed_list.specs.Items.{items_of};
 ghost use Rattle.clausal.specs.Counting.{count_of_names};
-ghost use Rattle.naming.specs.Names.{lit_in, names_for, same_name};
+ghost use Rattle.naming.specs.Names.{literal_in, names_for, same_name};
 
 use crate::counts::NAMES;
 use crate::numbers::{LEVEL, place_of};
 use crate::reached::ReachedRule;
 use atoms::clauses::Literal;
 use atoms::levels::Level;
+use atoms::sets::TRUE_ATOM;
 use clausal::names::Name;
 use fixed_list::ArrayVec;
 use modal::row::Row;
@@ -19,9 +20,6 @@ pub(crate) type Names = ArrayVec<Name, NAMES>;
 
 // The atom of the first name.
 pub(crate) const FIRST_NAME: u8 = 16;
-
-// The atom that is always true.
-const TRUE_ATOM: u8 = 15;
 
 // The atom of a name among those of its level.
 pub(crate) fn atom_of(names: &Names, name: Name) -> Option<u8>
@@ -39,7 +37,7 @@ impl ReachedRule<'_> {
     {
         let rule = self.number;
         let first = usize::from(level) * LEVEL;
-        for n in (first..first + LEVEL).filter(|n| self.is_taker(*n)) {
+        for n in (first..first + LEVEL).filter(|n| self.is_named(*n)) {
             let place = place_of(n);
             let name = Name::Place {
                 rule,
@@ -54,10 +52,10 @@ impl ReachedRule<'_> {
     }
 
     // The literal of a row with a sign, over a level's names.
-    #[tactic(auto, using(crate::proofs::Lookups::lit_is, crate::proofs::Lookups::row_ok))]
+    #[tactic(auto, using(crate::proofs::Lookups::literal_by_row, crate::proofs::Lookups::row_ok), unfolding(crate::specs::Names::literal_in))]
     pub(crate) fn literal(&self, names: &Names, row: u8, plus: bool) -> Literal
         requires { row < length self.now.rows.now }
-        ensures value { result ≡ lit_in (items_of names.now) self.now.number self.now.rows.now plus row }
+        ensures value { result ≡ literal_in (items_of names.now) self.now.number self.now.rows.now plus row }
         ensures small { result.atom < 64 }
     {
         match self.rows[usize::from(row)] {
@@ -78,10 +76,7 @@ impl ReachedRule<'_> {
                     plus,
                 };
                 // 0 where there is none, as the definition has it: no reached place is without its name
-                Literal {
-                    atom: atom_of(names, name).unwrap_or(0),
-                    holds: true,
-                }
+                Literal::positive(atom_of(names, name).unwrap_or(0))
             }
         }
     }

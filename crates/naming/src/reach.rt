@@ -1,13 +1,14 @@
 // The places that a rule reaches, found by a walk with a stack of the places still to be followed.
 //
 // What makes it right: a marked place is on the stack, or all that it leads to is marked or due to be visited
-// (`Walking`); so where the stack is empty and nothing is due, the marks are the reached places (`ended`).
+// (`WalkInvariant`); so where the stack is empty and nothing is due, the marks are the reached places (`ended`).
 ghost use Rattle.std.specs.Prelude.{◌≡◌, ◌+◌, ◌<◌, ◌≤◌, true, false, [], ◌∷◌, ◌++◌, length, if◌then◌else◌, slice_index_or, slice_set};
 ghost use Rattle.modal.specs.Rows.{lawful};
 ghost use Rattle.modal.specs.Rules.{rows_of};
-ghost use Rattle.naming.specs.Marks.{marked};
+ghost use Rattle.naming.specs.Marks.{count_of_marks};
 ghost use Rattle.naming.specs.Numbers.{number_of};
-ghost use Rattle.naming.specs.Walk.{leads_of, Walking};
+ghost use Rattle.clausal.specs.Places.{leads_of};
+ghost use Rattle.naming.specs.Walk.{WalkInvariant};
 ghost use Rattle.stack.specs.Entries.{entries_of, slots_of, lender_of};
 
 use crate::numbers::{PLACES, number, place_of};
@@ -26,7 +27,7 @@ struct Walk<'r, 'a> {
     todo: Stack<'a, u16>,
     ghost lawful: { lawful rows.now ≡ true },
     ghost slots: { length (slots_of todo) ≡ 1024 },
-    ghost room: { length (entries_of todo) ≤ marked marks },
+    ghost room: { length (entries_of todo) ≤ count_of_marks marks },
 }
 
 impl Walk<'_, '_> {
@@ -35,7 +36,7 @@ impl Walk<'_, '_> {
         requires { place.row < 64 }
         ensures marks { self.new.marks ≡ slice_set self.old.marks (number_of place) true }
         ensures todo { entries_of self.new.todo ≡ (if slice_index_or self.old.marks (number_of place) false then entries_of self.old.todo else entries_of self.old.todo ++ number_of place ∷ []) }
-        ensures count { length (entries_of self.new.todo) + marked self.old.marks ≡ length (entries_of self.old.todo) + marked self.new.marks }
+        ensures count { length (entries_of self.new.todo) + count_of_marks self.old.marks ≡ length (entries_of self.old.todo) + count_of_marks self.new.marks }
         ensures rows { self.new.rows.now ≡ self.old.rows.now }
         ensures lent { lender_of self.new.todo ≡ lender_of self.old.todo }
     {
@@ -50,9 +51,9 @@ impl Walk<'_, '_> {
     #[tactic(auto, using(crate::proofs::Lookups::row_ok, modal::proofs::Built::few_rows))]
     fn follow(&mut self, place: Place)
         requires row { place.row < length self.old.rows.now }
-        requires due { Walking self.old.rows.now (leads_of self.old.rows.now place) self.old.marks (entries_of self.old.todo) }
-        ensures walk { Walking self.old.rows.now [] self.new.marks (entries_of self.new.todo) }
-        ensures count { length (entries_of self.new.todo) + marked self.old.marks ≡ length (entries_of self.old.todo) + marked self.new.marks }
+        requires due { WalkInvariant self.old.rows.now (leads_of self.old.rows.now place) self.old.marks (entries_of self.old.todo) }
+        ensures walk { WalkInvariant self.old.rows.now [] self.new.marks (entries_of self.new.todo) }
+        ensures count { length (entries_of self.new.todo) + count_of_marks self.old.marks ≡ length (entries_of self.old.todo) + count_of_marks self.new.marks }
         ensures rows { self.new.rows.now ≡ self.old.rows.now }
         ensures lent { lender_of self.new.todo ≡ lender_of self.old.todo }
     {

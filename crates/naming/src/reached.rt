@@ -1,7 +1,7 @@
 // A rule whose reached places are marked.
 ghost use Rattle.std.specs.Prelude.{◌≡◌, true};
 ghost use Rattle.modal.specs.Rows.{lawful};
-ghost use Rattle.naming.specs.Marks.{Marks};
+ghost use Rattle.naming.specs.Marks.{MarksReached};
 
 use crate::numbers::PLACES;
 use modal::row::Row;
@@ -14,5 +14,5 @@ pub(crate) struct ReachedRule<'a> {
     // in fixed memory, since no rule may be refused for want of it
     pub(crate) marks: [bool; PLACES],
     ghost lawful: { lawful rows.now ≡ true },
-    ghost reached: { Marks rows.now marks },
+    ghost reached: { MarksReached rows.now marks },
 }

@@ -18,8 +18,8 @@ use fixed_list::ArrayVec;
 use modal::row_list::RowList;
 use modal::rule::Rule;
 
-// How many rules a session holds.
-const RULES: usize = 16;
+/// How many rules a table may hold.
+pub const RULES: usize = 16;
 
 /// The clausal form of up to 16 rules, but for their definitions, which an oracle holds.
 #[derive(Drop)]
@@ -44,7 +44,7 @@ impl Table {
     ghost use Rattle.clausal.specs.Clausal.{Orderly};
     ghost use Rattle.clausal.specs.Counting.{add_answer};
     ghost use Rattle.modal.specs.Rules.{listed, rows_of};
-    ghost use Rattle.naming.specs.Tables.{rules_in, boxes_in, diamonds_in, NewTable, number_in, TakesIn, HeldAs, HandleIs};
+    ghost use Rattle.naming.specs.Tables.{rules_in, boxes_in, diamonds_in, NewTable, number_in, AddsRule, HasRows, HasHandle};
 
     /// The table of a new session: no rules.
     pub fn new() -> Table
@@ -60,7 +60,7 @@ impl Table {
     /// A refusal leaves the table as it was.
     pub fn add(&mut self, rule: Rule) -> Result<Added, AddFault>
         ensures answer { number_in result ≡ add_answer (rules_in self.old) (rows_of rule) }
-        ensures step { TakesIn self.old (rows_of rule) self.new result }
+        ensures step { AddsRule self.old (rows_of rule) self.new result }
     {
         let number = self.rules.len();
         if number >= RULES {
@@ -90,15 +90,15 @@ impl Table {
 
     /// The rows of the rule with the number, if it is held.
     pub fn rows(&self, number: u8) -> Option<RowList>
-        ensures { MatchOption result (length (rules_in self.now) ≤ number) (λ list. HeldAs (rules_in self.now) number (listed list)) }
+        ensures { MatchOption result (length (rules_in self.now) ≤ number) (λ list. HasRows (rules_in self.now) number (listed list)) }
     {
         self.rules.as_slice().get(usize::from(number)).copied()
     }
 
     /// The handle of the rule with the number, if it is held.
-    #[tactic(auto, using(crate::proofs::Held::handle_found))]
+    #[tactic(auto, using(crate::proofs::TableReads::handle_found))]
     pub fn handle(&self, number: u8) -> Option<u8>
-        ensures { MatchOption result (length (rules_in self.now) ≤ number) (λ a. HandleIs self.now number a) }
+        ensures { MatchOption result (length (rules_in self.now) ≤ number) (λ a. HasHandle self.now number a) }
     {
         let names = &self.levels[usize::from(Level::ROOT)].names;
         atom_of(names, Name::Handle(number))

@@ -10,8 +10,6 @@ mod timing;
 
 use modal::faults::Fault;
 use offers::Offer;
-use oracle::Oracle;
-use rule_writer::Writer;
 use search::Searcher;
 use session::session::Session;
 use session::verdict::Verdict;
@@ -30,25 +28,13 @@ the verdict, and the bytes of each rule.";
 // As many rows as the largest tree has here, and some.
 const ROOM: usize = 2048;
 
-// Adds the rules of the offer to a session without rules, and answers the question for all of them.
-fn add_all<O: Oracle>(session: &mut Session<O>, offer: &[Writer]) -> anyhow::Result<u16> {
-    let mut asked = 0;
-    for rule in offer {
-        let number = session.add(rule.rule()?)?;
-        if number < 16 {
-            asked |= 1 << number;
-        }
-    }
-    Ok(asked)
-}
-
 fn print(rt: &HostRuntime, offer: Offer) -> anyhow::Result<()> {
     let name = offer.name();
     let rules = offer.rules(rt.alloc())?;
     let mut session = Session::new(Searcher::new());
-    let asked = add_all(&mut session, &rules)?;
+    rules.add_to(&mut session)?;
     let mut sheet = vec![in rt.alloc(); SheetRow::BLANK; ROOM]?;
-    match session.question(asked, &mut sheet) {
+    match session.question(rules.all(), &mut sheet) {
         Ok(Verdict::Open(count)) => {
             let drawn = sheet.iter().filter(|row| !row.is_blank()).count();
             println!(rt; "{name}: open, {count} worlds, {drawn} drawn")?;
@@ -69,41 +55,23 @@ fn print_all(rt: &HostRuntime) -> anyhow::Result<()> {
     Ok(())
 }
 
-// The verdict on the offer in one word.
-fn verdict(offer: &[Writer]) -> anyhow::Result<&'static str> {
-    let mut session = Session::new(Searcher::new());
-    let asked = add_all(&mut session, offer)?;
-    Ok(match session.question(asked, &mut []) {
-        Ok(Verdict::Open(_)) => "open",
-        Ok(Verdict::Closed(_)) => "closed",
-        Err(_) => "given-up",
-    })
-}
-
-fn print_rules(rt: &HostRuntime, name: &str, offer: &[Writer]) -> anyhow::Result<()> {
-    print!(rt; "{name}\t{}", verdict(offer)?)?;
-    for rule in offer {
-        print!(rt; " {rule}")?;
-    }
-    println!(rt)?;
-    Ok(())
-}
-
 fn list(rt: &HostRuntime) -> anyhow::Result<()> {
     for set in sets(rt.alloc())? {
         for offer in &set.offers {
-            print_rules(rt, set.name, offer)?;
+            println!(rt; "{}\t{}{offer}", set.name, offer.verdict()?)?;
         }
     }
     Ok(())
 }
 
 fn main(rt: HostRuntime) -> anyhow::Result<ExitCode> {
-    let argument = env::args(&rt)?.nth(1);
+    let mut arguments = env::args(&rt)?.skip(1);
+    let argument = arguments.next();
+    let more = arguments.next().is_some();
     match argument.as_deref() {
         None => print_all(&rt)?,
-        Some("time") => time(&rt)?,
-        Some("list") => list(&rt)?,
+        Some("time") if !more => time(&rt)?,
+        Some("list") if !more => list(&rt)?,
         Some("--help") => println!(rt; "{USAGE}")?,
         Some(_) => {
             eprintln!(rt; "{USAGE}")?;

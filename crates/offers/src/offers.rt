@@ -1,5 +1,6 @@
 // The offers: for each the rules that a session gets, all of which are asked together.
 use modal::row::Row;
+use rule_sets::{RuleSet, choices};
 use rule_writer::Writer;
 use std::alloc::{AllocError, Global};
 
@@ -48,38 +49,45 @@ impl Offer {
     }
 
     /// The rules of the offer.
-    pub(crate) fn rules(self, heap: Global) -> Result<Vec<Writer>, AllocError> {
+    pub(crate) fn rules(self, heap: Global) -> Result<RuleSet, AllocError> {
         let mut rules = Vec::new(heap);
         match self {
             Offer::TwoLanePairs => {
                 rules.push(lane_pair(heap, true)?)?;
                 rules.push(lane_pair(heap, false)?)?;
                 rules.push(machine_in_each(heap)?)?;
-                rules.push(sweep_in_each(heap)?)?;
+                rules.push(sweep_where(heap, MACHINE, true)?)?;
             }
             Offer::StringsAndSweeps => {
                 rules.push(strings_somewhere(heap)?)?;
-                rules.push(no_sweep_with_strings(heap)?)?;
-                rules.push(sweep_in_each(heap)?)?;
+                rules.push(sweep_where(heap, STRINGS, false)?)?;
+                rules.push(sweep_where(heap, MACHINE, true)?)?;
             }
             Offer::LargeHall => rules.push(hall(heap)?)?,
-            Offer::FourChoices => rules.push(choices(heap, 4)?)?,
-            Offer::EightChoices => rules.push(choices(heap, 8)?)?,
+            Offer::FourChoices => rules.push(choices(4, heap)?)?,
+            Offer::EightChoices => rules.push(choices(8, heap)?)?,
         }
-        Ok(rules)
+        Ok(RuleSet::new(rules))
     }
 }
 
-// Some lane pair has a ball return, or has none.
-fn lane_pair(heap: Global, with: bool) -> Result<Writer, AllocError> {
+// The letter, or its denial.
+fn literal(w: &mut Writer, letter: u8, holds: bool) -> Result<u8, AllocError> {
+    let row = w.row(Row::Letter(letter))?;
+    if holds { Ok(row) } else { w.row(Row::Not(row)) }
+}
+
+// The denial of the letter, or the row.
+fn implies(w: &mut Writer, letter: u8, row: u8) -> Result<u8, AllocError> {
+    let not = literal(w, letter, false)?;
+    w.row(Row::Or(not, row))
+}
+
+// Some lane pair has a ball return, or some has none.
+fn lane_pair(heap: Global, ball_return: bool) -> Result<Writer, AllocError> {
     let mut w = Writer::new(heap);
     let lane_pair = w.row(Row::Letter(LANE_PAIR))?;
-    let ball_return = w.row(Row::Letter(BALL_RETURN))?;
-    let told = if with {
-        ball_return
-    } else {
-        w.row(Row::Not(ball_return))?
-    };
+    let told = literal(&mut w, BALL_RETURN, ball_return)?;
     let both = w.row(Row::And(lane_pair, told))?;
     let _ = w.row(Row::Diamond(both))?;
     Ok(w)
@@ -95,22 +103,11 @@ fn machine_in_each(heap: Global) -> Result<Writer, AllocError> {
     Ok(w)
 }
 
-// Every machine of every part has a sweep.
-fn sweep_in_each(heap: Global) -> Result<Writer, AllocError> {
+// Every part of a part that has the letter has a sweep, or every such part has none.
+fn sweep_where(heap: Global, letter: u8, sweep: bool) -> Result<Writer, AllocError> {
     let mut w = Writer::new(heap);
-    let sweep = w.row(Row::Letter(SWEEP))?;
-    let told = implies(&mut w, MACHINE, sweep)?;
-    let here = w.row(Row::Box(told))?;
-    let _ = w.row(Row::Box(here))?;
-    Ok(w)
-}
-
-// No part of a part has strings and a sweep.
-fn no_sweep_with_strings(heap: Global) -> Result<Writer, AllocError> {
-    let mut w = Writer::new(heap);
-    let sweep = w.row(Row::Letter(SWEEP))?;
-    let none = w.row(Row::Not(sweep))?;
-    let told = implies(&mut w, STRINGS, none)?;
+    let told = literal(&mut w, SWEEP, sweep)?;
+    let told = implies(&mut w, letter, told)?;
     let here = w.row(Row::Box(told))?;
     let _ = w.row(Row::Box(here))?;
     Ok(w)
@@ -125,13 +122,6 @@ fn strings_somewhere(heap: Global) -> Result<Writer, AllocError> {
     let here = w.row(Row::Diamond(both))?;
     let _ = w.row(Row::Diamond(here))?;
     Ok(w)
-}
-
-// Not the letter, or the row.
-fn implies(w: &mut Writer, letter: u8, row: u8) -> Result<u8, AllocError> {
-    let told = w.row(Row::Letter(letter))?;
-    let not = w.row(Row::Not(told))?;
-    w.row(Row::Or(not, row))
 }
 
 // Parts with the letter 0, with 1 and with 2, each with such parts again, six levels deep.
@@ -151,22 +141,6 @@ fn hall(heap: Global) -> Result<Writer, AllocError> {
             all = w.row(Row::And(all, some))?;
         }
         below = all;
-    }
-    Ok(w)
-}
-
-// Each of so many letters at every part, or at none, and a part where nothing may be.
-fn choices(heap: Global, letters: u8) -> Result<Writer, AllocError> {
-    let mut w = Writer::new(heap);
-    let nothing = w.row(Row::False)?;
-    let mut all = w.row(Row::Diamond(nothing))?;
-    for letter in 0..letters {
-        let told = w.row(Row::Letter(letter))?;
-        let every = w.row(Row::Box(told))?;
-        let not = w.row(Row::Not(told))?;
-        let none = w.row(Row::Box(not))?;
-        let choice = w.row(Row::Or(every, none))?;
-        all = w.row(Row::And(all, choice))?;
     }
     Ok(w)
 }

@@ -2,14 +2,14 @@
 use crate::offers::Offer;
 use random::Random;
 use random_rules::{Shape, draw_all};
-use rule_writer::Writer;
+use rule_sets::RuleSet;
 use std::alloc::{AllocError, Global};
 
-/// Offers that are measured together, each as the rules that are asked together.
+/// Offers that are measured together.
 #[derive(Drop)]
 pub(crate) struct Set {
     pub(crate) name: &'static str,
-    pub(crate) offers: Vec<Vec<Writer>>,
+    pub(crate) offers: Vec<RuleSet>,
 }
 
 /// Random offers: how many, and what each is drawn from.
@@ -56,7 +56,8 @@ fn draw(drawn: Drawn, heap: Global) -> Result<Set, AllocError> {
     let mut random = Random::new(1);
     let mut offers = Vec::new(heap);
     for _ in 0..drawn.offers {
-        offers.push(draw_all(&mut random, drawn.shape, drawn.rules, heap)?)?;
+        let rules = draw_all(&mut random, drawn.shape, drawn.rules, heap)?;
+        offers.push(RuleSet::new(rules))?;
     }
     Ok(Set {
         name: drawn.name,

@@ -1,8 +1,7 @@
 // How long sessions take over the oracle that searches.
-use crate::add_all;
 use crate::counting::Counting;
 use crate::sets::{Set, sets};
-use rule_writer::Writer;
+use rule_sets::RuleSet;
 use search::Searcher;
 use session::session::Session;
 use std::cell::Cell;
@@ -68,9 +67,10 @@ impl Work {
     }
 
     // The nanoseconds for so many times on a session with the offer.
-    fn spent(self, rt: &HostRuntime, offer: &[Writer], times: u32) -> anyhow::Result<u128> {
+    fn spent(self, rt: &HostRuntime, offer: &RuleSet, times: u32) -> anyhow::Result<u128> {
         let mut session = Session::new(Searcher::new());
-        let asked = add_all(&mut session, offer)?;
+        offer.add_to(&mut session)?;
+        let asked = offer.all();
         let _ = session.question(asked, &mut []);
         let start = Instant::now(rt)?;
         for _ in 0..times {
@@ -97,7 +97,7 @@ fn done(set: &Set, times: u32) -> u128 {
 fn add_each(set: &Set) -> anyhow::Result<()> {
     for offer in &set.offers {
         let mut session = Session::new(Searcher::new());
-        let _ = add_all(&mut session, offer)?;
+        offer.add_to(&mut session)?;
     }
     Ok(())
 }
@@ -112,12 +112,12 @@ fn adding(rt: &HostRuntime, set: &Set, times: u32) -> anyhow::Result<u128> {
 }
 
 // How often the oracle is asked for a valuation for the first question about the offer.
-fn solves(offer: &[Writer]) -> anyhow::Result<u64> {
+fn solves(offer: &RuleSet) -> anyhow::Result<u64> {
     let solves = Cell::new(0);
     let mut session = Session::new(Counting::new(Searcher::new(), &solves));
-    let asked = add_all(&mut session, offer)?;
+    offer.add_to(&mut session)?;
     // a refusal is an answer too
-    let _ = session.question(asked, &mut []);
+    let _ = session.question(offer.all(), &mut []);
     Ok(solves.get())
 }
 

@@ -1,28 +1,18 @@
 -- A level's entries, and how many of them have each mark.
-use Rattle.std.proofs.Common.{◌≡◌, ℕ, ◌+◌, ◌<◌, ◌≤◌, cond, List, [], ◌∷◌, ◌++◌, map, length, get_or, take, set, sym, refl, ap, ◌∙◌, subst, arith, is_ok, Result}
+use Rattle.std.proofs.Common.{◌≡◌, ℕ, ◌+◌, ◌<◌, ◌≤◌, cond, List, [], ◌∷◌, ◌++◌, map, length, get_or, set, sym, refl, ap, ◌∙◌, subst, arith, is_ok, Result}
 use Rattle.std.specs.Bool.{⊤}
-use Rattle.std.proofs.lemmas.Bool.Decides.{nat_tests}
 use Rattle.std.proofs.lemmas.List.Filters.{length-filter_both}
-use Rattle.std.proofs.lemmas.List.{length-take-le, map-set, length-map, get_or-set_same, get_or-set_other, get_or-map, get_or_past}
+use Rattle.std.proofs.lemmas.List.{map-set, length-map, get_or-set_same, get_or-set_other, get_or-map, get_or_past}
 use Rattle.atoms.specs.Clauses.{is_learnt, is_definition, learnt, definitions}
 use Rattle.atoms.specs.declared.clauses.Entry.{Entry}
 use Rattle.oracle.specs.Oracles.{room, Taken}
 use Rattle.oracle.specs.Stores.{held_of, entries_in}
-use Rattle.lists.proofs.Members.{kept_others}
 use Rattle.oracle.specs.declared.answers.LevelFull.{LevelFull}
 use Rattle.oracle.specs.declared.entry_list.EntryList.{EntryList}
 
 -- how long a level's list is, by the two counts
 pub counted : (es : List Entry) → length (learnt es) + length (definitions es) ≡ length es
 counted es = length-filter_both is_learnt is_definition (λ _. refl) es
-
--- what stays when what was learnt is dropped
-pub kept_none : (xs : List Entry) → learnt (definitions xs) ≡ []
-kept_none [] = refl
-kept_none (x ∷ xs) = grind (arith, nat_tests, kept_none xs)
-
-pub kept_again : (xs : List Entry) → definitions (definitions xs) ≡ definitions xs
-kept_again xs = kept_others is_learnt (definitions xs) (kept_none xs)
 
 -- the entries of the levels, where one level's list is written
 pub entries_here : (rs : List EntryList) (i : ℕ) (r : EntryList) → i < length rs → entries_in (set rs i r) i ≡ held_of r

@@ -77,6 +77,6 @@ abbrev pub Satisfiable : List Entry → Assumptions → Type 0
 Satisfiable es w = (v : Valuation) × Satisfies es w v
 
 -- there is a valuation for the one list exactly where there is one for the other
-pub record Alike (es fs : List Entry) (w : Assumptions) : Type 0 where
+pub record SameVerdict (es fs : List Entry) (w : Assumptions) : Type 0 where
   pub there : Satisfiable es w → Satisfiable fs w
   pub back : Satisfiable fs w → Satisfiable es w

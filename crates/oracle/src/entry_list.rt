@@ -22,10 +22,10 @@ const SLOTS: usize = DEFINITIONS + LEARNT;
 pub struct EntryList {
     entries: ArrayVec<Entry, SLOTS>,
     // counted as they come: to count at each `take` and `forget` would need the same facts again and go over the list
-    defined: usize,
-    taught: usize,
-    ghost defines: { length (definitions (items_of entries)) ≡ defined },
-    ghost teaches: { length (learnt (items_of entries)) ≡ taught },
-    ghost few: { defined ≤ 97 },
-    ghost short: { taught ≤ 128 },
+    definition_count: usize,
+    learnt_count: usize,
+    ghost definitions_counted: { length (definitions (items_of entries)) ≡ definition_count },
+    ghost learnt_counted: { length (learnt (items_of entries)) ≡ learnt_count },
+    ghost definitions_few: { definition_count ≤ 97 },
+    ghost learnt_few: { learnt_count ≤ 128 },
 }

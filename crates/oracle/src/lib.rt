@@ -6,12 +6,20 @@
 //! shows that the meaning settles each verdict, and `agree` that two oracles with the same entries cannot differ.
 //!
 //! The store keeps each level's entries in an array with room for 97 definitions and 128 learnt entries, so `take`
-//! refuses exactly at these limits and never for want of memory.
+//! refuses exactly at these limits and never for want of memory. The crate stands on `atoms`, for what an oracle is
+//! asked about, and on `fixed_list`, for the array.
+//!
+//! - `Oracle`: the trait, with `take`, `solve`, `forget` and `clear`.
+//! - `satisfiable`: whether a valuation exists, asked of any oracle.
+//! - `agree`: whether two oracles give the same verdict.
+//! - `answers`: `Solved`, what `solve` answers, and `LevelFull`, why `take` refuses.
+//! - `store::Store`: the entries of every level; `take`, `forget` and `clear` as the trait has them, and `entries` of one level.
+//! - `entry_list::DEFINITIONS`, `LEARNT`: how many entries of each mark a level may hold.
 #![tactic(auto)]
 
 ghost use Rattle.std.specs.Prelude.{◌≡◌, ℕ, ◌↔◌, List, IsTrue};
 ghost use Rattle.atoms.specs.declared.clauses.Entry.{Entry};
-ghost use Rattle.oracle.specs.Oracles.{Taken, Solves, Forgets, Clears, Satisfiable, Alike};
+ghost use Rattle.oracle.specs.Oracles.{Taken, Solves, Forgets, Clears, Satisfiable, SameVerdict};
 
 use atoms::assumptions::Assumptions;
 use atoms::clauses::Entry;
@@ -60,7 +68,7 @@ pub fn satisfiable<O: Oracle>(oracle: &mut O, level: Level, under: Assumptions) 
 /// Whether two oracles give the same verdict. They always do where they hold the same entries at the level. No entry of
 /// either is altered.
 pub fn agree<A: Oracle, B: Oracle>(a: &mut A, b: &mut B, level: Level, under: Assumptions) -> bool
-    ensures verdict { IsTrue result ↔ Alike (A.Oracle.entries a.old level) (B.Oracle.entries b.old level) under }
+    ensures verdict { IsTrue result ↔ SameVerdict (A.Oracle.entries a.old level) (B.Oracle.entries b.old level) under }
     ensures always { A.Oracle.entries a.old level ≡ B.Oracle.entries b.old level → IsTrue result }
     ensures same_first { (k : ℕ) → A.Oracle.entries a.new k ≡ A.Oracle.entries a.old k }
     ensures same_second { (k : ℕ) → B.Oracle.entries b.new k ≡ B.Oracle.entries b.old k }

@@ -1,5 +1,6 @@
 -- The text form of a rule and a drawing: what a page has on it after each byte.
-use Rattle.std.specs.Prelude.{◌≡◌, ℕ, ◌+◌, ◌-◌, ◌*◌, ◌^◌, Bool, true, false, cond, ◌&&◌, ◌||◌, List, [], ◌∷◌, ◌++◌, length, Some, None, Ok, Err, vec_items, Option, Result, ◌==◌, bit_or, nat_le, nat_lt}
+use Rattle.std.specs.Prelude.{◌≡◌, ℕ, ◌+◌, ◌*◌, ◌^◌, Bool, true, false, cond, ◌||◌, List, [], ◌∷◌, ◌++◌, length, Some, None, Ok, Err, vec_items, Option, Result, ◌==◌, bit_or, nat_lt}
+use Rattle.std.specs.Char.{is_digit, digit_value}
 use Rattle.std.specs.Option.{unwrap_or}
 use Rattle.sheet.specs.declared.row.SheetRow.{SheetRow}
 use Rattle.page.specs.declared.faults.TextFault.{TextFault}
@@ -22,8 +23,8 @@ abbrev pub state_of : Page → PageState
 state_of p = record { expect = p.expect; comment = p.comment; digits = p.digits; bytes = vec_items p.bytes; rows = vec_items p.sheet }
 
 -- an empty page
-abbrev pub start : PageState
-start = record { expect = Byte; comment = false; digits = None; bytes = []; rows = [] }
+abbrev pub empty_page : PageState
+empty_page = record { expect = Byte; comment = false; digits = None; bytes = []; rows = [] }
 
 -- go on, unless there was a fault
 abbrev pub and_then : Result PageState TextFault → (PageState → Result PageState TextFault) → Result PageState TextFault
@@ -79,15 +80,9 @@ base_for (Letter r) = 10
 abbrev pub base_of : PageState → ℕ
 base_of p = base_for p.expect
 
-abbrev pub within : ℕ → ℕ → ℕ → Bool
-within low high b = nat_le low b && nat_le b high
-
--- the value of a digit: 0 to 9, and in base sixteen a to f and A to F
+-- the value of a digit in a base, as the standard library has it: 0 to 9, then a to z and A to Z
 abbrev pub digit_in : ℕ → ℕ → Option ℕ
-digit_in b base =
-    cond (within 48 57 b) (Some (b - 48))
-    (cond (within 97 102 b && base == 16) (Some (b - 97 + 10))
-    (cond (within 65 70 b && base == 16) (Some (b - 65 + 10)) None))
+digit_in b base = cond (is_digit b base) (Some (digit_value b)) None
 
 abbrev pub digit_as : Option ℕ → PageState → ℕ → Result PageState TextFault
 digit_as None p at = Err (Unexpected at)
@@ -116,14 +111,13 @@ read_from p at (b ∷ bs) = and_then (byte_read p b at) (λ q. read_from q (at +
 
 -- what a text has on it; its end ends its last line
 abbrev pub read_page : List ℕ → Result PageState TextFault
-read_page text = read_from start 0 text
+read_page text = read_from empty_page 0 text
 
 -- the fault is the one that the definition finds, or there was no memory
 abbrev pub Faulted : Result PageState TextFault → PageFault → Type 0
 Faulted want (fault.Text e) = want ≡ Err e
-Faulted want (fault.Rule e) = ⊥
-Faulted want (fault.Sheet e) = ⊥
 Faulted want fault.Memory = Unit {0}
+Faulted want _ = ⊥
 
 -- a step of the program does what the definition says, or fails for want of memory
 abbrev pub Moves : Result PageState TextFault → PageState → Result (Unit {0}) PageFault → Type 0

@@ -1,7 +1,7 @@
 // Reading a page, byte by byte.
 ghost use Rattle.std.specs.Prelude.{◌≡◌, ◌<◌, if◌then◌else◌, Ok, Err, nat_lt};
 ghost use Rattle.page.specs.declared.faults.TextFault.TheVariants.{TooLarge};
-ghost use Rattle.page.specs.Pages.{state_of, start, letter_added, number_taken, number_ended, line_ended, line_closed, digit_added, byte_read, read_page, base_of, digit_in, Moves, PageRead};
+ghost use Rattle.page.specs.Pages.{state_of, empty_page, letter_added, number_taken, number_ended, line_ended, line_closed, digit_added, byte_read, read_page, base_of, digit_in, Moves, PageRead};
 
 use crate::faults::{PageFault, TextFault};
 use crate::page::{Expect, Page};
@@ -29,7 +29,7 @@ fn with_letter(row: SheetRow, letter: u8) -> SheetRow
 
 impl Page {
     fn new(heap: Global) -> Page
-        ensures { state_of result ≡ start }
+        ensures { state_of result ≡ empty_page }
     {
         Page {
             expect: Expect::Byte,

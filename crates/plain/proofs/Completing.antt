@@ -3,6 +3,7 @@ use Rattle.std.proofs.Common.{◌≡◌, ℕ, ◌+◌, ◌^◌, ◌<◌, ◌≤�
 use Rattle.std.proofs.lemmas.Bool.{both_ways, false_from_ne_true}
 use lib.Bits.{bit_or, and_le_l, or_lt, or_disjoint}
 use Rattle.std.proofs.lemmas.Bool.Decides.{nat_tests}
+use Rattle.atoms.specs.Assuming.{Apart, is_free}
 use Rattle.atoms.specs.Bits.{bit}
 use Rattle.atoms.specs.Sets.{has}
 use Rattle.atoms.specs.Clauses.{Valuation, makes, makes_all}
@@ -17,7 +18,7 @@ use Rattle.atoms.proofs.Making.{agree_all}
 use Rattle.atoms.proofs.Obeying.{Follows}
 use Rattle.atoms.proofs.Restricting.{restricted, restricted_all}
 use Rattle.std.proofs.lemmas.List.Folds.{list_all_at}
-use Rattle.plain.specs.Counts.{Part, counted_over, Tried, First}
+use Rattle.plain.specs.Counts.{Part, Tried, First}
 
 -- the valuation tried for a part u of the free atoms: what must be in, and u
 abbrev pub candidate : Assumptions → ℕ → Valuation
@@ -28,7 +29,7 @@ abbrev pub Fail : List Entry → Assumptions → ℕ → (ℕ → Type 0) → Ty
 Fail es w free p = (u : ℕ) → u < 2 ^ 64 → Part u free → p u → makes_all (candidate w u) es ≡ true → ⊥
 
 -- what is tried for the free atoms of a valuation
-candidate_restricted : (es : List Entry) (w : Assumptions) (free : ℕ) (v : Valuation) → ((i : ℕ) → bit free i ≡ counted_over es w i)
+candidate_restricted : (es : List Entry) (w : Assumptions) (free : ℕ) (v : Valuation) → ((i : ℕ) → bit free i ≡ is_free es w i)
     → (i : ℕ) → i < 64 → candidate w (set_below 64 (λ j. v j && bit free j)) i ≡ restricted es w v i
 candidate_restricted es w free v e i l = grind (arith, nat_tests, e i, set_has 64 (λ j. v j && bit free j) i)
 
@@ -36,14 +37,14 @@ candidate_restricted es w free v e i l = grind (arith, nat_tests, e i, set_has 6
 gathered_part : (free : ℕ) (v : Valuation) → Part (set_below 64 (λ j. v j && bit free j)) free
 gathered_part free v i h = grind (arith, nat_tests, set_has 64 (λ j. v j && bit free j) i, has_high 64 (set_below 64 (λ j. v j && bit free j)) i (set_small 64 (λ j. v j && bit free j)))
 
-pub complete : (es : List Entry) (w : Assumptions) (free : ℕ) → ((i : ℕ) → bit free i ≡ counted_over es w i) → Fail es w free (λ u. Unit {0}) → (v : Valuation) → Follows v w → makes_all v es ≡ true → ⊥
+pub complete : (es : List Entry) (w : Assumptions) (free : ℕ) → ((i : ℕ) → bit free i ≡ is_free es w i) → Fail es w free (λ u. Unit {0}) → (v : Valuation) → Follows v w → makes_all v es ≡ true → ⊥
 complete es w free e fail v f m =
     fail (set_below 64 (λ j. v j && bit free j)) (set_small 64 (λ j. v j && bit free j)) (gathered_part free v) tt
     (agree_all es (candidate w (set_below 64 (λ j. v j && bit free j))) (restricted es w v) (λ i _ l. candidate_restricted es w free v e i l) (restricted_all es w v f m))
 
 -- the valuation that the code tries follows what is assumed
-pub counted_follows : (es : List Entry) (w : Assumptions) (free u : ℕ) (s : AtomSet) → ((i : ℕ) → has w.within i && has w.without i ≡ false)
-    → ((i : ℕ) → bit free i ≡ counted_over es w i)
+pub counted_follows : (es : List Entry) (w : Assumptions) (free u : ℕ) (s : AtomSet) → Apart w
+    → ((i : ℕ) → bit free i ≡ is_free es w i)
     → Part u free → ((i : ℕ) → has s i ≡ candidate w u i) → Follows (has s) w
 counted_follows es w free u s apart e p q = record { ins = λ i h. grind (arith, nat_tests, q i); outs = λ i h. grind (arith, nat_tests, q i, apart i, e i, p i) }
 
@@ -61,14 +62,14 @@ pub fail_all : (es : List Entry) (w : Assumptions) (free v : ℕ) → v ≡ free
 fail_all es w free v e f here u lu p _ k = grind (arith, f u lu p, here, part_le 64 u free lu p, k)
 
 -- what must be in and the free atoms have none in common
-disjoint : (es : List Entry) (w : Assumptions) (free u : ℕ) → w.within.bits < 2 ^ 64 → ((i : ℕ) → bit free i ≡ counted_over es w i) → Part u free
+disjoint : (es : List Entry) (w : Assumptions) (free u : ℕ) → w.within.bits < 2 ^ 64 → ((i : ℕ) → bit free i ≡ is_free es w i) → Part u free
     → bit_or w.within.bits u ≡ w.within.bits + u
 disjoint es w free u lw e p =
     or_disjoint w.within.bits u (has_nothing 64 _ (let l = and_le_l w.within.bits u in omega arith) (λ i. has_and w.within.bits u i ∙ grind (arith, nat_tests, e i, p i)))
 
 -- the first part that does not fail gives the first valuation
 pub first : (es : List Entry) (w : Assumptions) (free v s : ℕ) → w.within.bits < 2 ^ 64 → s < 2 ^ 64 → v < 2 ^ 64
-    → ((i : ℕ) → bit free i ≡ counted_over es w i) → Part v free → ((i : ℕ) → bit s i ≡ candidate w v i) → makes_all (bit s) es ≡ true → Fail es w free (λ u. u < v) → First es w s
+    → ((i : ℕ) → bit free i ≡ is_free es w i) → Part v free → ((i : ℕ) → bit s i ≡ candidate w v i) → makes_all (bit s) es ≡ true → Fail es w free (λ u. u < v) → First es w s
 first es w free v s lw ls lv e p q m fail = record {
   tried = record { small = ls; others = λ a h. grind (arith, nat_tests, q a, e a, p a) };
   made = m;

@@ -1,8 +1,8 @@
 -- Which valuations the plain oracle tries, and which it answers. A valuation is here the number that its bits write.
-use Rattle.std.specs.Prelude.{◌≡◌, ℕ, ◌^◌, ◌<◌, ◌≤◌, Bool, true, false, not, ◌&&◌, List, Some, None, Option}
-use Rattle.atoms.specs.Assuming.{settled}
+use Rattle.std.specs.Prelude.{◌≡◌, ℕ, ◌^◌, ◌<◌, ◌≤◌, true, false, List, Some, None, Option}
+use Rattle.atoms.specs.Assuming.{is_free}
 use Rattle.atoms.specs.Bits.{bit}
-use Rattle.atoms.specs.Clauses.{makes_all, names}
+use Rattle.atoms.specs.Clauses.{makes_all}
 use Rattle.atoms.specs.Sets.{has}
 use Rattle.atoms.specs.declared.assumptions.Assumptions.{Assumptions}
 use Rattle.atoms.specs.declared.clauses.Entry.{Entry}
@@ -19,14 +19,10 @@ pub record NextPart (v m w : ℕ) : Type 0 where
   pub more : v < w
   pub least : (u : ℕ) → u < 2 ^ 64 → Part u m → v < u → w ≤ u
 
--- the atoms that are counted over: named by an entry, and not assumed
-abbrev pub counted_over : List Entry → Assumptions → ℕ → Bool
-counted_over es w a = names es a && not (settled w a)
-
--- the valuation is tried: an atom that is not counted over is as assumed, else out
+-- the valuation is tried: an atom that is not free is as assumed, else out
 pub record Tried (es : List Entry) (w : Assumptions) (v : ℕ) : Type 0 where
   pub small : v < 2 ^ 64
-  pub others : (a : ℕ) → counted_over es w a ≡ false → bit v a ≡ has w.within a
+  pub others : (a : ℕ) → is_free es w a ≡ false → bit v a ≡ has w.within a
 
 -- the first of the tried valuations that makes every entry true
 pub record First (es : List Entry) (w : Assumptions) (v : ℕ) : Type 0 where

@@ -3,8 +3,12 @@
 //! It counts over the atoms that the level's entries name and that are not assumed; the others are as assumed, else
 //! out. It tries these valuations in counting order, that is, by the number that the bits of the valuation write, and
 //! drops each at the first entry that it makes false. `Counted` of `specs/Counts.antt` says which valuation that
-//! finds. It misses none, since a valuation's entries depend only on the named atoms (`complete` of
-//! `proofs/Completing.antt`).
+//! finds. It misses none, since whether the entries are true depends only on the named atoms (`complete` of
+//! `proofs/Completing.antt`). The entries stand in the store of `oracle`, and what each call promises is said there.
+//!
+//! - `Plain::new`: an oracle without entries.
+//! - `take`, `solve`, `forget`, `clear`: the calls of `Oracle`; `solve` says which answer it gives and that its core is
+//!   all that was assumed.
 #![tactic(auto)]
 
 ghost use Rattle.std.specs.Prelude.{◌≡◌, MatchOption};
@@ -13,7 +17,7 @@ ghost use Rattle.plain.specs.Counts.{Part, Counted, NextPart};
 ghost use Rattle.plain.specs.Plains.{plain_entries};
 
 use atoms::assumptions::Assumptions;
-use atoms::clauses::{Entry, named};
+use atoms::clauses::Entry;
 use atoms::levels::Level;
 use atoms::sets::AtomSet;
 use oracle::Oracle;
@@ -40,7 +44,7 @@ fn count(entries: &[Entry], under: Assumptions) -> Option<AtomSet>
     if under.clashes() {
         return None;
     }
-    let free = named(entries).intersection(under.undecided());
+    let free = under.free(entries);
     let mut counted = AtomSet::NONE;
     // With a label, as docs/DECISIONS.md has it for this oracle: the inner loop is left for the next valuation at the first
     // entry that is false.

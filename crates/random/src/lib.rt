@@ -1,4 +1,9 @@
-//! Random numbers from a seed, for programs that try many cases. The same seed gives the same numbers.
+//! Random numbers from a seed, for programs that try many cases. The same seed gives the same numbers. The crate stands
+//! on no other; it promises bounds, and not which numbers come.
+//!
+//! - `Random::new`: the generator of a seed
+//! - `below`: a number below a bound
+//! - `coin`: true or false
 #![tactic(auto)]
 
 ghost use Rattle.std.specs.Prelude.{◌<◌};

@@ -1,6 +1,9 @@
-//! Random rules, for programs that try many. A rule is a modal clause: a few literals, one of which holds, each a letter
-//! or a box or diamond of a smaller modal clause, or the denial of one. Of such rules asked together, some sets can be
-//! met and some cannot.
+//! Random rules, for programs that try many. A rule is a modal clause: one literal, or two of which one holds, each a
+//! letter or a box or diamond of a smaller modal clause, or the denial of one. Of such rules asked together, some sets
+//! can be met and some cannot. The crate stands on `random` and `rule_writer`; it promises how many rules are drawn,
+//! and not which.
+//!
+//! - `draw_all`: so many random rules of a `Shape`, each as the writer of its rows
 #![tactic(auto)]
 
 ghost use Rattle.std.specs.Prelude.{◌≡◌, length, IfOk};
@@ -64,12 +67,12 @@ impl Draft<'_> {
     // One literal of the depth, and perhaps one more, which is shallow: a rule has at most 64 rows.
     #[cycle(modal_clause)]
     fn clause(&mut self, depth: u8) -> Result<u8, AllocError> {
-        let mut row = self.literal(depth)?;
-        for _ in 0..self.random.below(2) {
-            let other = self.literal(depth.min(1))?;
-            row = self.writer.row(Row::Or(row, other))?;
+        let row = self.literal(depth)?;
+        if self.random.coin() {
+            return Ok(row);
         }
-        Ok(row)
+        let other = self.literal(depth.min(1))?;
+        self.writer.row(Row::Or(row, other))
     }
 }
 

@@ -1,5 +1,11 @@
 //! Rules made row by row, by programs that generate them. A writer holds the bytes of its rows; the rule is read from
-//! them as often as it is wanted, since a session uses a rule up.
+//! them as often as it is wanted, since a session uses a rule up. The crate stands on `modal`, and promises that the
+//! writer holds the bytes of the rows that it was given, and that the rule is what these bytes say
+//! (`specs/Writing.antt`).
+//!
+//! - `Writer::new`: a writer with no row
+//! - `row`: appends a row, and answers its number
+//! - `rule`, `bytes`: the rule of the rows, and their bytes in place
 #![tactic(auto)]
 
 ghost use Rattle.std.specs.Prelude.{◌≡◌, ◌+◌, min, ◌++◌, Ok, Err, IfOk, MatchResult};
@@ -23,6 +29,7 @@ pub struct Writer {
 impl Writer {
     ghost use Rattle.std.specs.Prelude.{[]};
 
+    /// A writer with no row.
     pub fn new(heap: Global) -> Writer
         ensures bytes { bytes_in result ≡ [] }
         ensures number { next_number result ≡ 0 }
@@ -39,16 +46,7 @@ impl Writer {
         ensures next { IfOk result (λ number. next_number self.new ≡ min (number + 1) 255) }
         ensures bytes { IfOk result (λ _. bytes_in self.new ≡ bytes_in self.old ++ bytes_of row) }
     {
-        match row {
-            Row::False => self.bytes.push(0)?,
-            Row::True => self.bytes.push(1)?,
-            Row::Letter(letter) => self.bytes.extend_from_slice(&[2, letter])?,
-            Row::Not(c) => self.bytes.extend_from_slice(&[3, c])?,
-            Row::And(c, e) => self.bytes.extend_from_slice(&[4, c, e])?,
-            Row::Or(c, e) => self.bytes.extend_from_slice(&[5, c, e])?,
-            Row::Box(c) => self.bytes.extend_from_slice(&[6, c])?,
-            Row::Diamond(c) => self.bytes.extend_from_slice(&[7, c])?,
-        }
+        self.bytes.extend_from_slice(row.bytes().as_slice())?;
         let number = self.rows;
         // a rule of more than 64 rows is refused when it is read
         self.rows = number.saturating_add(1);

@@ -1,5 +1,6 @@
 //! Carries out an input of commands on a new session, and prints a line for each. The input is bytes, or with the
-//! argument `text` the text of such bytes.
+//! argument `text` the text of such bytes. What the lines are is promised by `console`, which bytes a text says by
+//! `hex_text`; this program reads standard input and prints.
 #![tactic(auto)]
 
 use console::lines::lines;
@@ -36,11 +37,13 @@ fn answer(rt: &HostRuntime, input: &[u8]) -> anyhow::Result<ExitCode> {
 }
 
 fn main(rt: HostRuntime) -> anyhow::Result<ExitCode> {
-    let argument = env::args(&rt)?.nth(1);
+    let mut arguments = env::args(&rt)?.skip(1);
+    let argument = arguments.next();
+    let more = arguments.next().is_some();
     match argument.as_deref() {
         None => answer(&rt, &bytes(&rt)?),
-        Some("text") => answer(&rt, &text(&rt)?),
-        Some("--help") => {
+        Some("text") if !more => answer(&rt, &text(&rt)?),
+        Some("--help") if !more => {
             println!(rt; "{USAGE}")?;
             Ok(ExitCode::SUCCESS)
         }

@@ -16,14 +16,14 @@ use Rattle.clausal.specs.declared.places.Place.{Place}
 use Rattle.law.specs.Verdicts.{handles}
 use Rattle.clausal.specs.declared.shapes.Shape.TheVariants.{Both}
 use Rattle.samples.specs.Laws.{shape_at, AllHold, Demanded, diamond_places, left, right, whole}
-use Rattle.samples.specs.Samples.{Held, Closed, HeldBy, Holds, MetBy, Open, Sample, numbers, samples}
+use Rattle.samples.specs.Samples.{HeldBySome, Closed, HeldBy, Holds, MetBy, Open, Sample, numbers, samples}
 use Rattle.samples.proofs.Counting.{counted, lone}
 use Rattle.samples.proofs.Holding.{held_somewhere}
 use Rattle.samples.proofs.Meeting.{all_met_tree, met_by_root, root_meeting}
 use Rattle.samples.proofs.Sources.{no_diamonds}
 
 -- rules that a world meets are open with the number of worlds that each complete tree has
-open_from : (rules : List (List Row)) (count : ℕ) → Held rules → MetBy rules → ((st : State) → HeldBy rules st → (t : Tree) → Complete st 0 (handles st (numbers rules)) t → size t ≡ count) → Open rules count
+open_from : (rules : List (List Row)) (count : ℕ) → HeldBySome rules → MetBy rules → ((st : State) → HeldBy rules st → (t : Tree) → Complete st 0 (handles st (numbers rules)) t → size t ≡ count) → Open rules count
 open_from rules count h met e = record {
   held = h;
   met = met;
@@ -31,15 +31,15 @@ open_from rules count h met e = record {
   exactly = e;
 }
 
-closed_from : (rules : List (List Row)) → Held rules → (MetBy rules → ⊥) → Closed rules
+closed_from : (rules : List (List Row)) → HeldBySome rules → (MetBy rules → ⊥) → Closed rules
 closed_from rules h n = record { held = h; nowhere = n; no_tree = λ st held t c. n (met_by_root rules st held t c) }
 
 -- one rule that no world of any model meets
-closed_rule : (rows : List Row) → Held (rows ∷ []) → ((ws : List World) (w : ℕ) → meets (says rows) ws w ≡ true → ⊥) → Closed (rows ∷ [])
+closed_rule : (rows : List Row) → HeldBySome (rows ∷ []) → ((ws : List World) (w : ℕ) → meets (says rows) ws w ≡ true → ⊥) → Closed (rows ∷ [])
 closed_rule rows h n = closed_from (rows ∷ []) h (λ met. n met.model.worlds met.at (and_parts _ true met.meeting).0)
 
 -- one rule whose diamonds are demanded, none of them at level 1
-open_rule : (rows : List Row) → Held (rows ∷ []) → MetBy (rows ∷ []) → ((p : Place) → In p (diamond_places rows 0) → Demanded rows p.row p.plus) → diamond_places rows 1 ≡ [] → Open (rows ∷ []) (suc (length (diamond_places rows 0)))
+open_rule : (rows : List Row) → HeldBySome (rows ∷ []) → MetBy (rows ∷ []) → ((p : Place) → In p (diamond_places rows 0) → Demanded rows p.row p.plus) → diamond_places rows 1 ≡ [] → Open (rows ∷ []) (suc (length (diamond_places rows 0)))
 open_rule rows h met demanded flat = open_from (rows ∷ []) _ h met (counted rows demanded flat)
 
 -- a world alone, where every letter is true
@@ -54,7 +54,7 @@ nothing_asked : Open [] 1
 nothing_asked = open_from [] 1 (held_somewhere [] refl) (met_alone [] refl) (λ st held t c. lone st 0 _ t c (no_diamonds st held.clausal 0 (λ r h. (let e = ap length held.rules_held in absurd (omega arith)))))
 
 -- one rule without diamonds, met by a world alone
-without_diamonds : (rows : List Row) → Held (rows ∷ []) → MetBy (rows ∷ []) → diamond_places rows 0 ≡ [] → diamond_places rows 1 ≡ [] → Open (rows ∷ []) 1
+without_diamonds : (rows : List Row) → HeldBySome (rows ∷ []) → MetBy (rows ∷ []) → diamond_places rows 0 ≡ [] → diamond_places rows 1 ≡ [] → Open (rows ∷ []) 1
 without_diamonds rows h met bare flat = subst (Open (rows ∷ [])) (ap (λ ps. suc (length ps)) bare) (open_rule rows h met (λ p i. elim (subst (In p) bare i) [ ]) flat)
 
 -- a world with two successors, one where every letter is true and one where none is

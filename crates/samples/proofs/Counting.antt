@@ -1,14 +1,14 @@
 -- How many worlds the complete trees of a rule have: its diamonds that are demanded all fire, each with one world.
-use Rattle.std.proofs.Common.{◌≡◌, ℕ, suc, ◌+◌, ◌-◌, ◌<◌, Bool, true, not, List, [], ◌∷◌, length, get_or, sym, refl, ap, ◌∙◌, subst, arith}
+use Rattle.std.proofs.Common.{◌≡◌, ℕ, suc, ◌+◌, ◌-◌, ◌<◌, Bool, true, List, [], ◌∷◌, length, get_or, sym, refl, ap, ◌∙◌, subst, arith}
 use mathlib.Core.Bool.{false≢true}
-use Rattle.std.proofs.lemmas.Bool.{eq-eqb, and_parts, both_ways}
+use Rattle.std.proofs.lemmas.Bool.{eq-eqb, and_parts}
 use Rattle.lists.specs.Lists.{In, here, there}
-use Rattle.lists.proofs.Members.{every_in}
+use Rattle.lists.proofs.Members.{every_in, kept_all}
 use Rattle.modal.specs.declared.row.Row.{Row}
 use Rattle.modal.specs.declared.row.Row.TheVariants.{And, Box, Diamond, False, Letter, Not, Or, True}
-use Rattle.atoms.specs.Clauses.{Valuation, definitions, makes_all, obeys_one}
+use Rattle.atoms.specs.Clauses.{Valuation, definitions, makes_all, obeys_one, negation}
 use Rattle.atoms.specs.declared.clauses.Literal.{Literal}
-use Rattle.clausal.specs.Clausal.{Clausal, defines_name, negation, row_at, shape, wants_name}
+use Rattle.clausal.specs.Clausal.{Clausal, defines_name, row_at, shape, takes_name}
 use Rattle.clausal.specs.Places.{Reached, last, lit, literal_of, name_of}
 use Rattle.clausal.specs.States.{State, fired, handle_of, rule_at}
 use Rattle.clausal.specs.Trees.{Complete, CompleteAll, Forest, Tree, more, node, none, size, sizes}
@@ -16,17 +16,17 @@ use Rattle.clausal.specs.declared.modal_clauses.ModalClause.{ModalClause}
 use Rattle.clausal.specs.declared.names.Name.{Name}
 use Rattle.clausal.specs.declared.names.Name.TheVariants.{Free as free, Handle as handle, Place as place}
 use Rattle.clausal.specs.declared.places.Place.{Place}
-use Rattle.clausal.specs.declared.shapes.Shape.TheVariants.{Both as both}
-use Rattle.clausal.proofs.Forms.{clause_cases, rule_in}
+use Rattle.clausal.specs.declared.shapes.Shape.TheVariants.{Both as both, Plain as plain}
+use Rattle.clausal.proofs.Forms.{rule_in, only, then_one}
 use Rattle.clausal.proofs.Gathered.{gather_in}
-use Rattle.clausal.proofs.Reading.{Kids, handle_at, kids, place_at}
+use Rattle.clausal.proofs.Reading.{handle_at, place_at}
+use Rattle.clausal.proofs.Signed.{Kids, kids}
 use Rattle.clausal.proofs.Rows.{lawful_rows, literal_is, reached_ok}
 use Rattle.law.specs.Verdicts.{handles}
 use Rattle.samples.specs.Laws.{Demanded, diamond_places, left, right, shape_at, whole}
 use Rattle.samples.specs.Samples.{HeldBy, numbers}
-use Rattle.samples.proofs.Elements.{kept_all}
 use Rattle.samples.proofs.Placing.{as_many, from_single, gives}
-use Rattle.samples.proofs.Sources.{no_diamonds}
+use Rattle.samples.proofs.Sources.{no_diamonds, shape_named}
 
 -- a tree whose level has no diamond clauses is one world
 pub lone : (st : State) (l : ℕ) (xs : List Literal) (t : Tree) → Complete st l xs t → st.diamonds l ≡ [] → size t ≡ 1
@@ -43,7 +43,7 @@ lone_all st l bs ds (more t ts) (d, rest, q, c, cs) e =
     omega arith
 
 -- the literal of a row that takes a name is the name
-named_literal : (nm : ℕ → Bool → ℕ) (ls : List (Bool → Literal)) (k : ℕ) (row : Row) (s : Bool) → wants_name row ≡ true → literal_of nm ls k row s ≡ record { atom = nm k s; holds = true }
+named_literal : (nm : ℕ → Bool → ℕ) (ls : List (Bool → Literal)) (k : ℕ) (row : Row) (s : Bool) → takes_name row ≡ true → literal_of nm ls k row s ≡ record { atom = nm k s; holds = true }
 named_literal nm ls k False s t = absurd (false≢true t)
 named_literal nm ls k True s t = absurd (false≢true t)
 named_literal nm ls k (Letter a) s t = absurd (false≢true t)
@@ -53,34 +53,20 @@ named_literal nm ls k (Or c e) s t = refl
 named_literal nm ls k (Box c) s t = refl
 named_literal nm ls k (Diamond c) s t = refl
 
-both_named : (row : Row) (s : Bool) {c e : ℕ} → shape row s ≡ both c e → wants_name row ≡ true
-both_named False s q = absurd cc
-both_named True s q = absurd cc
-both_named (Letter a) s q = absurd cc
-both_named (Not a) s q = absurd cc
-both_named (And a b) s q = refl
-both_named (Or a b) s q = refl
-both_named (Box a) s q = refl
-both_named (Diamond a) s q = refl
-
--- a clause "not n, or x" with n in leaves x
-then_obeyed : (v : Valuation) (n : ℕ) (x : Literal) → v n ≡ true → (y : Literal) → In y (negation n ∷ x ∷ []) → obeys_one v y ≡ true → obeys_one v x ≡ true
-then_obeyed v n x t y here o = absurd (both_ways _ (ap not t) o)
-then_obeyed v n x t y (there here) o = o
-then_obeyed v n x t y (there (there i)) o = elim i [ ]
+both_named : (row : Row) (s : Bool) {c e : ℕ} → shape row s ≡ both c e → takes_name row ≡ true
+both_named row s {c} {e} q = shape_named row s (λ z. (let n : both c e ≡ plain = sym q ∙ z in absurd cc))
 
 module _ (st : State) (cl : Clausal st) (r : ℕ) (h : r < length st.rules) (v : Valuation) (made : makes_all v (definitions (st.entries 0)) ≡ true) where
   -- a definition of a name that is in
   defined : (i : ℕ) (n : Name) (x : Literal) → i < length (st.names 0) → get_or (st.names 0) i free ≡ n → v (16 + i) ≡ true → In (negation (16 + i) ∷ x ∷ []) (defines_name st 0 r (16 + i) n) → obeys_one v x ≡ true
   defined i n x il e t j =
       let (en, ej, w) = rule_in st 0 (length st.rules) (definitions (st.entries 0)) (cl.written 0) r h (gather_in (defines_name st 0 r) 16 (st.names 0) i il (rw e j)) in
-      let (y, k, o) = clause_cases v w (every_in _ ej made) in
-      then_obeyed v (16 + i) x t y k o
+      only v x (then_one v (16 + i) (x ∷ []) en.clause t w (every_in _ ej made))
 
   abbrev Obeyed : ℕ → Bool → Type 0
   Obeyed k s = Reached (rule_at st r) (record { row = k; plus = s; level = 0 }) × (obeys_one v (lit st r 0 s k) ≡ true)
 
-  named_in : (k : ℕ) (s : Bool) → Obeyed k s → wants_name (row_at st r k) ≡ true → v (name_of st 0 r k s) ≡ true
+  named_in : (k : ℕ) (s : Bool) → Obeyed k s → takes_name (row_at st r k) ≡ true → v (name_of st 0 r k s) ≡ true
   named_in k s (x, o) t =
       let ok = lawful_rows _ (cl.naming.all_lawful r h) in
       ap (obeys_one v) (sym (literal_is (rule_at st r) ok (name_of st 0 r) _ k s (reached_ok (rule_at st r) ok x).0 ∙ named_literal (name_of st 0 r) _ k (row_at st r k) s t)) ∙ o

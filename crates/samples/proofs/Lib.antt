@@ -1,4 +1,3 @@
-pub mod Elements
 pub mod Meeting
 pub mod Holding
 pub mod Sources

@@ -2,7 +2,7 @@
 use Rattle.std.proofs.Common.{◌≡◌, ℕ, zero, suc, ◌+◌, ◌<◌, ◌≤◌, true, false, List, [], ◌∷◌, length, get_or, sym, refl, ap, ◌∙◌, subst, arith}
 use Rattle.std.proofs.lemmas.Bool.{and_from}
 use Rattle.lists.specs.Lists.{In, here, there}
-use Rattle.lists.proofs.Members.{every_in, every_from, kept_in, get_or_in}
+use Rattle.lists.proofs.Members.{every_in, every_from, kept_in, get_or_in, in_get_or}
 use Rattle.modal.specs.Kripke.{Model, meets, world}
 use Rattle.modal.specs.Rows.{says}
 use Rattle.modal.proofs.Models.{successor_inside}
@@ -19,9 +19,9 @@ use Rattle.clausal.proofs.Reading.{handle_at, reading_name}
 use Rattle.clausal.proofs.Soundness.{box_true, definition_true, diamond_true}
 use Rattle.clausal.proofs.Truth.{root_meets}
 use Rattle.law.specs.Verdicts.{handles}
-use Rattle.law.proofs.Answering.{in_handles}
-use Rattle.samples.proofs.Elements.{below, every_at, numbered}
 use Rattle.samples.specs.Samples.{HeldBy, MetBy, numbers}
+use Rattle.lists.proofs.Ranges.{range_in, in_range}
+use Rattle.law.proofs.Learning.{in_handles}
 
 module _ (st : State) (cl : Clausal st) (m : Model) where
   -- how a world of the model reads the atoms of a level
@@ -68,11 +68,11 @@ module _ (st : State) (cl : Clausal st) (m : Model) where
 
 module _ (rules : List (List Row)) (st : State) (held : HeldBy rules st) where
   asked_held : (k : ℕ) → In k (numbers rules) → k < length st.rules
-  asked_held k i = let h = below (length rules) k i in let e = ap length held.rules_held in omega arith
+  asked_held k i = let (_, h) = range_in 0 (length rules) k i in let e = ap length held.rules_held in omega arith
 
   meeting_at : (met : MetBy rules) (k : ℕ) → In k (numbers rules) → meets (says (rule_at st k)) met.model.worlds met.at ≡ true
   meeting_at met k i =
-      let h = below (length rules) k i in
+      let (_, h) = range_in 0 (length rules) k i in
       subst (λ rs. meets (says (get_or rs k [])) met.model.worlds met.at ≡ true) (sym held.rules_held) (every_in (λ rows. meets (says rows) met.model.worlds met.at) (get_or_in rules k [] (omega arith)) met.meeting)
 
   pub all_met_tree : MetBy rules → (t : Tree) × Complete st 0 (handles st (numbers rules)) t
@@ -90,5 +90,5 @@ module _ (rules : List (List Row)) (st : State) (held : HeldBy rules st) where
       model = model_of t;
       at = 0;
       inside = (model_of t).inhabited;
-      meeting = every_at _ [] rules (λ k h. subst (λ rs. meets (says (get_or rs k [])) (worlds 0 t) 0 ≡ true) held.rules_held (root_meeting k (numbered (length rules) k h)));
+      meeting = every_from _ rules (λ rows i. (let (k, h, e) = in_get_or [] i in subst (λ z. meets (says z) (worlds 0 t) 0 ≡ true) (ap (λ rs. get_or rs k []) held.rules_held ∙ e) (root_meeting k (in_range 0 (length rules) k (omega arith) (omega arith)))));
     }

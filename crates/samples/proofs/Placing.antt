@@ -1,13 +1,11 @@
 -- The places of a rule that give diamond clauses, each one clause: where one rule is held, there are as many as clauses.
-use Rattle.std.proofs.Common.{◌≡◌, ℕ, suc, ◌+◌, ◌<◌, Bool, true, eqb, List, [], ◌∷◌, length, get_or, map, sym, refl, ap, ◌∙◌, subst, arith}
+use Rattle.std.proofs.Common.{◌≡◌, ℕ, suc, ◌+◌, ◌<◌, Bool, true, eqb, List, [], ◌∷◌, length, get_or, map, sym, ap, ◌∙◌, subst, arith}
 use Rattle.std.proofs.lemmas.Bool.{and_parts, eqb-true}
 use Rattle.std.proofs.lemmas.List.{length-map}
 use Rattle.lists.specs.Lists.{In, Once, here}
 use Rattle.lists.proofs.Members.{kept_in}
-use Rattle.modal.specs.declared.row.Row.{Row}
-use Rattle.modal.specs.declared.row.Row.TheVariants.{And, Box, Diamond, False, Letter, Not, Or, True}
 use Rattle.lists.proofs.Onces.{once_kept, once_le}
-use Rattle.clausal.specs.Clausal.{Clausal, Rising, diamonded, row_at, shape, wants_name}
+use Rattle.clausal.specs.Clausal.{Clausal, Rising, diamonded, row_at, takes_name}
 use Rattle.clausal.specs.Counting.{places_of}
 use Rattle.clausal.specs.Places.{lit, name_of}
 use Rattle.clausal.specs.States.{State, rule_at}
@@ -20,8 +18,8 @@ use Rattle.clausal.proofs.Forms.{modal_in}
 use Rattle.clausal.proofs.Modals.{diamonds_orderly}
 use Rattle.clausal.proofs.Reading.{place_at}
 use Rattle.samples.specs.Laws.{diamond_places, is_diamond_at}
-use Rattle.samples.proofs.Elements.{in_map, map_once, mapped}
-use Rattle.samples.proofs.Sources.{source}
+use Rattle.samples.proofs.Sources.{source, shape_named}
+use Rattle.lists.proofs.Maps.{mapped_in, in_mapped, once_mapped}
 
 place_one : (sh : Shape) → eqb (length (diamonded sh)) 1 ≡ true → (c : ℕ) × In c (diamonded sh)
 place_one sh h = go (diamonded sh) (eqb-true (length (diamonded sh)) 1 h)
@@ -29,16 +27,6 @@ place_one sh h = go (diamonded sh) (eqb-true (length (diamonded sh)) 1 h)
     go : (cs : List ℕ) → length cs ≡ 1 → (c : ℕ) × In c cs
     go [] e = absurd (omega arith)
     go (c ∷ cs) e = (c, here)
-
-row_named : (row : Row) (s : Bool) {c : ℕ} → In c (diamonded (shape row s)) → wants_name row ≡ true
-row_named False s i = elim i [ ]
-row_named True s i = elim i [ ]
-row_named (Letter a) s i = elim i [ ]
-row_named (Not a) s i = elim i [ ]
-row_named (And a b) s i = refl
-row_named (Or a b) s i = refl
-row_named (Box a) s i = refl
-row_named (Diamond a) s i = refl
 
 abbrev at_level : ℕ → Bool → ℕ → Place
 at_level k s l = record { row = k; plus = s; level = l }
@@ -54,7 +42,7 @@ module _ (st : State) (cl : Clausal st) (l : ℕ) where
     -- the clause that a place gives, and the slot of its name
     pub record Gives (p : Place) : Type 0 where
       pub level : p.level ≡ l
-      pub wanted : wants_name (row_at st r p.row) ≡ true
+      pub wanted : takes_name (row_at st r p.row) ≡ true
       pub clause : ModalClause
       pub slot : ℕ
       pub given : In clause (st.diamonds l)
@@ -69,7 +57,7 @@ module _ (st : State) (cl : Clausal st) (l : ℕ) where
         let e = eqb-true p.level l a in
         let (c, u) = place_one _ b in
         let x = counted_reached (rule_at st r) j in
-        let w = row_named _ p.plus u in
+        let w = shape_named _ p.plus (λ z. elim (subst (λ sh. In c (diamonded sh)) z u) [ ]) in
         let (k, m, n, q) = place_at st l r p.row p.plus (subst (λ z. In (place r p.row p.plus) (st.names z)) e (cl.naming.named r p h x w)) in
         record {
           level = e;
@@ -91,11 +79,11 @@ module _ (st : State) (cl : Clausal st) (l : ℕ) where
         ap (at_level p.row p.plus) a.level ∙ (s ∙ ap (at_level q.row q.plus) (sym b.level))
 
     names_once : Once (map (λ p. name_of st l r p.row p.plus) (diamond_places (rule_at st r) l))
-    names_once = map_once _ _ (once_kept _ _ (counted_once (rule_at st r))) one_slot
+    names_once = once_mapped _ _ (once_kept _ _ (counted_once (rule_at st r))) one_slot
 
   rising_once : (ds : List ModalClause) → Rising ds → Once (map (λ (d : ModalClause). d.name) ds)
   rising_once [] r = tt
-  rising_once (d ∷ ds) r = ((λ i. (let (e, j, q) = mapped _ ds i in let a = r.0 e j in absurd (omega arith))), rising_once ds r.1)
+  rising_once (d ∷ ds) r = ((λ i. (let (e, j, q) = mapped_in _ ds i in let a = r.0 e j in absurd (omega arith))), rising_once ds r.1)
 
   -- where one rule is held, each of its places gives one clause
   module _ (single : length st.rules ≡ 1) where
@@ -114,15 +102,15 @@ module _ (st : State) (cl : Clausal st) (l : ℕ) where
 
     names_placed : (n : ℕ) → In n (map name (st.diamonds l)) → In n (map named_by (diamond_places (rule_at st 0) l))
     names_placed n i =
-        let (d, j, e) = mapped name (st.diamonds l) i in
+        let (d, j, e) = mapped_in name (st.diamonds l) i in
         let (p, k, q) = from_single d j in
-        subst (λ m. In m (map named_by (diamond_places (rule_at st 0) l))) (q ∙ e) (in_map named_by k)
+        subst (λ m. In m (map named_by (diamond_places (rule_at st 0) l))) (q ∙ e) (in_mapped named_by k)
 
     places_named : (n : ℕ) → In n (map named_by (diamond_places (rule_at st 0) l)) → In n (map name (st.diamonds l))
     places_named n i =
-        let (p, j, e) = mapped named_by (diamond_places (rule_at st 0) l) i in
+        let (p, j, e) = mapped_in named_by (diamond_places (rule_at st 0) l) i in
         let g = gives 0 (omega arith) p j in
-        subst (λ m. In m (map name (st.diamonds l))) (g.name ∙ e) (in_map name g.given)
+        subst (λ m. In m (map name (st.diamonds l))) (g.name ∙ e) (in_mapped name g.given)
 
     pub as_many : length (st.diamonds l) ≡ length (diamond_places (rule_at st 0) l)
     as_many =

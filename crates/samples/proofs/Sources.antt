@@ -5,22 +5,35 @@ use Rattle.std.proofs.Common.{◌≡◌, ℕ, ◌+◌, ◌<◌, Bool, true, eqb,
 use Rattle.std.proofs.lemmas.Bool.{and_from, eq-eqb}
 use Rattle.lists.specs.Lists.{In}
 use Rattle.lists.proofs.Members.{get_or_in, in_kept, no_members}
-use Rattle.clausal.specs.Clausal.{Clausal, Proper, diamonded}
+use Rattle.clausal.specs.Clausal.{Clausal, Proper, diamonded, shape, takes_name}
 use Rattle.clausal.specs.Places.{name_of}
 use Rattle.clausal.specs.States.{State, rule_at}
 use Rattle.clausal.specs.declared.modal_clauses.ModalClause.{ModalClause}
 use Rattle.clausal.specs.declared.names.Name.TheVariants.{Free as free, Place as place}
 use Rattle.clausal.specs.declared.places.Place.{Place}
 use Rattle.clausal.specs.declared.shapes.Shape.{Shape}
-use Rattle.clausal.specs.declared.shapes.Shape.TheVariants.{One as one}
+use Rattle.clausal.specs.declared.shapes.Shape.TheVariants.{One as one, Plain as plain}
 use Rattle.clausal.proofs.Counted.{reached_counted}
 use Rattle.clausal.proofs.Forms.{diamonded_is, modal_from}
 use Rattle.clausal.proofs.Reading.{place_at}
 use Rattle.clausal.proofs.Rows.{lawful_rows}
 use Rattle.samples.specs.Laws.{diamond_places, is_diamond_at}
+use Rattle.modal.specs.declared.row.Row.{Row}
+use Rattle.modal.specs.declared.row.Row.TheVariants.{And, Box, Diamond, False, Letter, Not, Or, True}
 
 one_place : {c : ℕ} (sh : Shape) → sh ≡ one c → eqb (length (diamonded sh)) 1 ≡ true
 one_place v1 v2 = grind (arith, common_steps, nat_tests)
+
+-- a row whose shape leads to other rows takes a name
+pub shape_named : (row : Row) (s : Bool) → (shape row s ≡ plain → ⊥) → takes_name row ≡ true
+shape_named False s n = absurd (n refl)
+shape_named True s n = absurd (n refl)
+shape_named (Letter a) s n = absurd (n refl)
+shape_named (Not a) s n = absurd (n refl)
+shape_named (And a b) s n = refl
+shape_named (Or a b) s n = refl
+shape_named (Box a) s n = refl
+shape_named (Diamond a) s n = refl
 
 module _ (st : State) (cl : Clausal st) (l : ℕ) where
   -- a slot that stands for a place gives the place's name

@@ -14,7 +14,7 @@ use Rattle.clausal.specs.declared.places.Place.{Place}
 use Rattle.clausal.specs.declared.shapes.Shape.{Shape}
 use Rattle.clausal.specs.declared.shapes.Shape.TheVariants.{Both}
 use Rattle.law.specs.Verdicts.{handles}
-use Rattle.samples.specs.Samples.{Sample, Holds, Held, HeldBy, numbers}
+use Rattle.samples.specs.Samples.{Sample, Holds, HeldBySome, HeldBy, numbers}
 
 -- whatever rules a world of a model meets together have a complete tree under their handles, in every session that holds them
 abbrev pub MetHasTree : Type 0
@@ -30,7 +30,7 @@ fit rules = nat_le (length rules) 16 && (every lawful rules && every (leaves_roo
 
 -- rules that fit are held by some session
 abbrev pub FittingRulesHeld : Type 0
-FittingRulesHeld = (rules : List (List Row)) → fit rules ≡ true → Held rules
+FittingRulesHeld = (rules : List (List Row)) → fit rules ≡ true → HeldBySome rules
 
 -- what the row is under the sign
 abbrev pub shape_at : List Row → ℕ → Bool → Shape

@@ -65,20 +65,20 @@ pub record HeldBy (rules : List (List Row)) (st : State) : Type 0 where
   pub rules_held : st.rules ≡ rules
 
 -- a session that holds exactly the rules
-pub record Held (rules : List (List Row)) : Type 0 where
+pub record HeldBySome (rules : List (List Row)) : Type 0 where
   pub session : State
   pub holds : HeldBy rules session
 
 -- Open: some world meets all the rules; and in every session that holds exactly them there is a complete tree of so many worlds, and none of any other number.
 pub record Open (rules : List (List Row)) (count : ℕ) : Type 0 where
-  pub held : Held rules
+  pub held : HeldBySome rules
   pub met : MetBy rules
   pub answer : (st : State) → HeldBy rules st → OpenLaw st (numbers rules) count
   pub exactly : (st : State) → HeldBy rules st → (t : Tree) → Complete st 0 (handles st (numbers rules)) t → size t ≡ count
 
 -- Closed: no world of any Kripke model meets all the rules, and no session that holds exactly them has a complete tree.
 pub record Closed (rules : List (List Row)) : Type 0 where
-  pub held : Held rules
+  pub held : HeldBySome rules
   pub nowhere : MetBy rules → ⊥
   pub no_tree : (st : State) → HeldBy rules st → (t : Tree) → Complete st 0 (handles st (numbers rules)) t → ⊥
 

@@ -2,7 +2,7 @@
 use Rattle.std.proofs.Common.{◌≡◌, ℕ, ◌<◌, ◌≤◌, Bool, true, false, cond, not, ◌&&◌, eqb, refl, ap, ◌∙◌, arith}
 use Rattle.std.proofs.lemmas.Bool.{both_ways}
 use Rattle.std.proofs.lemmas.Bool.Decides.{nat_tests}
-use Rattle.atoms.specs.Assuming.{settled}
+use Rattle.atoms.specs.Assuming.{Apart, settled}
 use Rattle.atoms.specs.Clauses.{Valuation, obeys_one, makes}
 use Rattle.atoms.specs.Sets.{has}
 use Rattle.atoms.specs.declared.assumptions.Assumptions.{Assumptions}
@@ -11,8 +11,8 @@ use Rattle.atoms.specs.declared.clauses.Literal.{Literal}
 use Rattle.atoms.specs.declared.sets.AtomSet.{AtomSet}
 use Rattle.atoms.proofs.Making.{makes_none, unmade}
 use Rattle.atoms.proofs.Obeying.{Follows}
-use Rattle.search.specs.Judging.{true_at, open_at, Conflicts, Forces, Leaves}
-use Rattle.search.specs.Searches.{Apart, Full}
+use Rattle.search.specs.Judging.{trail_makes_at, undecided_at, Conflicts, Forces, LeavesOpen}
+use Rattle.search.specs.Searches.{Full}
 
 -- a clause that the trail makes false is false under every valuation that follows the trail
 pub conflicts_false : (w : Assumptions) (c : Clause) → Conflicts w c → (v : Valuation) → Follows v w → makes v c ≡ true → ⊥
@@ -31,7 +31,7 @@ pub forces_free : (w : Assumptions) (c : Clause) (x : Literal) → Forces w c x 
 forces_free w c x k = grind (arith, nat_tests, k.small, k.plain x.atom, k.negated x.atom)
 
 -- when every atom is decided, a clause that the trail does not make false is true under it
-pub leaves_true : (w : Assumptions) (c : Clause) → Apart w → Full w → Leaves w c → makes (has w.within) c ≡ true
+pub leaves_true : (w : Assumptions) (c : Clause) → Apart w → Full w → LeavesOpen w c → makes (has w.within) c ≡ true
 leaves_true w c apart full k = at (makes (has w.within) c) refl
   where
     at : (b : Bool) → makes (has w.within) c ≡ b → makes (has w.within) c ≡ true
@@ -47,11 +47,11 @@ pub all_out : (t : ℕ → Bool) (r : Bool) → ((i : ℕ) → 64 ≤ i → t i 
 all_out t r high some e none = both_ways _ e (some (λ i. grind (arith, nat_tests, high i, none i)))
 
 -- a true literal leaves the clause open
-pub leaves_met : (w : Assumptions) (c : Clause) → (((a : ℕ) → a < 64 → true_at w c a ≡ false) → ⊥) → Leaves w c
+pub leaves_met : (w : Assumptions) (c : Clause) → (((a : ℕ) → a < 64 → trail_makes_at w c a ≡ false) → ⊥) → LeavesOpen w c
 leaves_met w c m = record { conflict = λ k. m k.untrue; forced = λ x k. m k.untrue }
 
 -- undecided literals of both signs
-pub leaves_both : (w : Assumptions) (c : Clause) → (((a : ℕ) → a < 64 → open_at w c.plain a ≡ false) → ⊥) → (((a : ℕ) → a < 64 → open_at w c.negated a ≡ false) → ⊥) → Leaves w c
+pub leaves_both : (w : Assumptions) (c : Clause) → (((a : ℕ) → a < 64 → undecided_at w c.plain a ≡ false) → ⊥) → (((a : ℕ) → a < 64 → undecided_at w c.negated a ≡ false) → ⊥) → LeavesOpen w c
 leaves_both w c p n = record { conflict = λ k. p k.plain; forced = λ x k. by x.holds x k refl }
   where
     none : (b : Bool) (x : Literal) (a : ℕ) → b ≡ false → b && eqb x.atom a ≡ false
@@ -66,15 +66,15 @@ abbrev pub signed : Bool → Clause → AtomSet
 signed b c = cond b c.plain c.negated
 
 -- more than one undecided literal of one sign
-pub leaves_many : (b : Bool) (w : Assumptions) (c : Clause) → (((a : ℕ) → a < 64 → open_at w (signed b c) a ≡ false) → ⊥)
-    → ((y : ℕ) → y < 64 → ((a : ℕ) → a < 64 → open_at w (signed b c) a ≡ eqb y a) → ⊥) → Leaves w c
+pub leaves_many : (b : Bool) (w : Assumptions) (c : Clause) → (((a : ℕ) → a < 64 → undecided_at w (signed b c) a ≡ false) → ⊥)
+    → ((y : ℕ) → y < 64 → ((a : ℕ) → a < 64 → undecided_at w (signed b c) a ≡ eqb y a) → ⊥) → LeavesOpen w c
 leaves_many b w c some many = record { conflict = λ k. some (closed b k); forced = λ x k. by (cond b x.holds (not x.holds)) x k refl }
   where
-    closed : (b : Bool) → Conflicts w c → (a : ℕ) → a < 64 → open_at w (signed b c) a ≡ false
+    closed : (b : Bool) → Conflicts w c → (a : ℕ) → a < 64 → undecided_at w (signed b c) a ≡ false
     closed true k = k.plain
     closed false k = k.negated
 
-    sole : (b : Bool) (x : Literal) → Forces w c x → (a : ℕ) → a < 64 → open_at w (signed b c) a ≡ cond b x.holds (not x.holds) && eqb x.atom a
+    sole : (b : Bool) (x : Literal) → Forces w c x → (a : ℕ) → a < 64 → undecided_at w (signed b c) a ≡ cond b x.holds (not x.holds) && eqb x.atom a
     sole true x k = k.plain
     sole false x k = k.negated
 

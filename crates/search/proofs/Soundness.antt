@@ -2,19 +2,19 @@
 use Rattle.std.proofs.Common.{◌≡◌, ℕ, ◌<◌, Bool, true, false, not, List, ◌∷◌, Some, None, Option, refl, ap, ◌∙◌, subst, arith}
 use Rattle.std.proofs.lemmas.Bool.{and_from, or_left, and_parts}
 use Rattle.std.proofs.lemmas.Bool.Decides.{nat_tests}
-use Rattle.atoms.specs.Assuming.{Obeys, settled, Joined}
-use Rattle.atoms.specs.Clauses.{Valuation, obeys_one, makes, makes_all}
+use Rattle.atoms.specs.Assuming.{Apart, Obeys, settled, Joined}
+use Rattle.atoms.specs.Clauses.{Valuation, obeys_one, makes, makes_all, positive, negation}
 use Rattle.atoms.specs.Sets.{has}
 use Rattle.atoms.specs.declared.assumptions.Assumptions.{Assumptions}
 use Rattle.atoms.specs.declared.clauses.Entry.{Entry}
 use Rattle.atoms.specs.declared.clauses.Literal.{Literal}
 use Rattle.atoms.specs.declared.sets.AtomSet.{AtomSet}
-use Rattle.atoms.proofs.Below.{count_less}
+use Rattle.atoms.proofs.Counts.{count_less}
 use Rattle.atoms.proofs.Obeying.{Follows, obeys_follows, follows_obeys, clash_never, follows_less, follows_more}
 use Rattle.atoms.proofs.Restricting.{restricted, restricted_all}
 use Rattle.oracle.specs.Oracles.{Finds, Satisfies, Unsatisfiable}
 use Rattle.search.specs.Judging.{FirstJudged, none, here, later, Judged, Forces}
-use Rattle.search.specs.Searches.{Searched, clash, conflict, follow, full, try_in, try_out, Started, SearchedFrom, Apart, Full, inside, outside, undecided_in}
+use Rattle.search.specs.Searches.{Searched, clash, conflict, follow, full, try_in, try_out, StartTrail, SearchedFrom, Full, undecided_in}
 use Rattle.search.specs.declared.status.Status.{Status}
 use Rattle.search.specs.declared.status.Status.TheVariants.{Conflict, Forced, Open}
 use Rattle.search.proofs.Clausewise.{conflicts_false, forces_true, forces_free, leaves_true}
@@ -74,13 +74,13 @@ found_forced es w u x (Some s) j t f = found_less es w u x s j f
 found_forced es w u x None j t f = λ v o m. let g = obeys_follows v w o in f v (follows_obeys v u (follows_more w u x v j g (t v g m))) m
 
 -- where both trials of an atom find nothing there is nothing
-found_both : (es : List Entry) (w u t : Assumptions) (a : ℕ) (r : Option AtomSet) → Joined w (outside a) u → Joined w (inside a) t → Unsatisfiable u es → Finds es t r → Finds es w r
-found_both es w u t a (Some s) ju jt f g = found_less es w t (inside a) s jt g
+found_both : (es : List Entry) (w u t : Assumptions) (a : ℕ) (r : Option AtomSet) → Joined w (negation a) u → Joined w (positive a) t → Unsatisfiable u es → Finds es t r → Finds es w r
+found_both es w u t a (Some s) ju jt f g = found_less es w t (positive a) s jt g
 found_both es w u t a None ju jt f g = λ v o m. at v (obeys_follows v w o) m (v a) refl
   where
     at : (v : Valuation) → Follows v w → makes_all v es ≡ true → (b : Bool) → v a ≡ b → ⊥
-    at v h m false e = f v (follows_obeys v u (follows_more w u (outside a) v ju h (ap not e))) m
-    at v h m true e = g v (follows_obeys v t (follows_more w t (inside a) v jt h e)) m
+    at v h m false e = f v (follows_obeys v u (follows_more w u (negation a) v ju h (ap not e))) m
+    at v h m true e = g v (follows_obeys v t (follows_more w t (positive a) v jt h e)) m
 
 -- when all is decided the trail is the valuation
 found_full : (es : List Entry) (w : Assumptions) → Apart w → makes_all (has w.within) es ≡ true → Satisfies es w (has w.within)
@@ -96,11 +96,11 @@ searched_finds (clash {w = w} e) = λ v o m. clash_never w e v (obeys_follows v 
 searched_finds (conflict {w = w} apart j) = λ v o m. first_tells j v (obeys_follows v w o) m
 searched_finds {es = es} (follow {w = w} {u = u} {r = r} x apart j k s) = found_forced es w u x r k (first_tells j) (searched_finds s)
 searched_finds {es = es} (full {w = w} apart j all) = found_full es w apart (first_tells j apart all)
-searched_finds {es = es} (try_out {w = w} {u = u} {v = v} a apart j low k s) = found_less es w u (outside a) v k (searched_finds s)
+searched_finds {es = es} (try_out {w = w} {u = u} {v = v} a apart j low k s) = found_less es w u (negation a) v k (searched_finds s)
 searched_finds {es = es} (try_in {w = w} {u = u} {t = t} {r = r} a apart j low k s l n) = found_both es w u t a r k l (searched_finds s) (searched_finds n)
 
 -- where the atoms that no entry names are out too, unless they must be in, no verdict is lost
-spared : (es : List Entry) (under w : Assumptions) → Started es under w → Unsatisfiable w es → Unsatisfiable under es
+spared : (es : List Entry) (under w : Assumptions) → StartTrail es under w → Unsatisfiable w es → Unsatisfiable under es
 spared es under w st never v o m =
     never (restricted es under v) (follows_obeys _ w (record {
       ins = λ i h. grind (arith, nat_tests, st.within i);
@@ -111,7 +111,7 @@ spared es under w st never v o m =
     f : Follows v under
     f = obeys_follows v under o
 
-started_less : (es : List Entry) (under w : Assumptions) → Started es under w → (v : Valuation) → Obeys v w → Obeys v under
+started_less : (es : List Entry) (under w : Assumptions) → StartTrail es under w → (v : Valuation) → Obeys v w → Obeys v under
 started_less es under w st v o =
     let f = obeys_follows v w o in
     follows_obeys v under (record {

@@ -16,35 +16,36 @@ pub record Sole (s : AtomSet) (a : ℕ) : Type 0 where
   pub members : (i : ℕ) → has s i ≡ (a == i)
 
 -- does the trail make a literal true that the clause has at the atom
-abbrev pub true_at : Assumptions → Clause → ℕ → Bool
-true_at w c a = (has c.plain a && has w.within a) || (has c.negated a && has w.without a)
+abbrev pub trail_makes_at : Assumptions → Clause → ℕ → Bool
+trail_makes_at w c a = (has c.plain a && has w.within a) || (has c.negated a && has w.without a)
 
--- has the set an undecided atom there
-abbrev pub open_at : Assumptions → AtomSet → ℕ → Bool
-open_at w s a = has s a && not (settled w a)
+-- is the atom an undecided one of the set
+abbrev pub undecided_at : Assumptions → AtomSet → ℕ → Bool
+undecided_at w s a = has s a && not (settled w a)
 
 -- no literal of the clause is true, and none undecided
 pub record Conflicts (w : Assumptions) (c : Clause) : Type 0 where
-  pub untrue : (a : ℕ) → a < 64 → true_at w c a ≡ false
-  pub plain : (a : ℕ) → a < 64 → open_at w c.plain a ≡ false
-  pub negated : (a : ℕ) → a < 64 → open_at w c.negated a ≡ false
+  pub untrue : (a : ℕ) → a < 64 → trail_makes_at w c a ≡ false
+  pub plain : (a : ℕ) → a < 64 → undecided_at w c.plain a ≡ false
+  pub negated : (a : ℕ) → a < 64 → undecided_at w c.negated a ≡ false
 
 -- no literal of the clause is true, and x is the only one undecided
 pub record Forces (w : Assumptions) (c : Clause) (x : Literal) : Type 0 where
   pub small : x.atom < 64
-  pub untrue : (a : ℕ) → a < 64 → true_at w c a ≡ false
-  pub plain : (a : ℕ) → a < 64 → open_at w c.plain a ≡ x.holds && x.atom == a
-  pub negated : (a : ℕ) → a < 64 → open_at w c.negated a ≡ not x.holds && x.atom == a
+  pub untrue : (a : ℕ) → a < 64 → trail_makes_at w c a ≡ false
+  pub plain : (a : ℕ) → a < 64 → undecided_at w c.plain a ≡ x.holds && x.atom == a
+  pub negated : (a : ℕ) → a < 64 → undecided_at w c.negated a ≡ not x.holds && x.atom == a
 
 -- neither
-pub record Leaves (w : Assumptions) (c : Clause) : Type 0 where
+pub record LeavesOpen (w : Assumptions) (c : Clause) : Type 0 where
   pub conflict : Conflicts w c → ⊥
   pub forced : (x : Literal) → Forces w c x → ⊥
 
+-- what the trail makes of the clause
 abbrev pub Judged : Assumptions → Clause → Status → Type 0
 Judged w c Conflict = Conflicts w c
 Judged w c (Forced x) = Forces w c x
-Judged w c Open = Leaves w c
+Judged w c Open = LeavesOpen w c
 
 -- what the trail makes of the first clause of the list that is not open
 pub data FirstJudged (w : Assumptions) : List Entry → Status → Type 0 where

@@ -31,11 +31,11 @@ fn judge(clause: Clause, trail: Assumptions) -> Status
         (true, true) => Status::Conflict,
         (false, true) => sole(plain).map_or(
             Status::Open,
-            |atom| Status::Forced(Literal { atom, holds: true }),
+            |atom| Status::Forced(Literal::positive(atom)),
         ),
         (true, false) => sole(negated).map_or(
             Status::Open,
-            |atom| Status::Forced(Literal { atom, holds: false }),
+            |atom| Status::Forced(Literal::negation(atom)),
         ),
         (false, false) => Status::Open,
     }

@@ -4,9 +4,15 @@
 //! undecided atom both ways, first out, then in; each trial is a smaller search of the same kind. The trail is a
 //! record of the atoms that are in and out so far, and a guard puts it back at the end of every trial. The relation
 //! `Searched` of `specs/Searches.antt` says which answer this order of trial gives; that such an answer is right is the
-//! lemma `searched_finds` of `proofs/Soundness.antt`. Before it tries an atom, it asks
-//! whether every entry is true with all undecided atoms out, and if so answers that: it is what the trials would come
-//! to, by the lemma `out_searched` of `proofs/AllOut.antt`.
+//! lemma `searched_finds` of `proofs/Soundness.antt`. Before it tries an atom, it asks whether every entry is true with
+//! all undecided atoms out, and if so answers that: it is what the trials would come to, by the lemma `out_searched` of
+//! `proofs/AllOut.antt`. The entries stand in the store of `oracle`, and what each call promises is said there.
+//!
+//! - `Searcher::new`: an oracle without entries.
+//! - `take`, `solve`, `forget`, `clear`: the calls of `Oracle`; `solve` says which answer it gives and that its core is
+//!   all that was assumed.
+//!
+//! Inside, `judging` says what a trail makes of a clause and of a list of entries, and `searching` tries.
 #![tactic(auto)]
 
 ghost use Rattle.oracle.specs.Oracles.{Solves, Clears, WholeCore, valuation_in};

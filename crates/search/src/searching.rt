@@ -1,6 +1,6 @@
 ghost use Rattle.std.specs.Prelude.{◌≡◌, ◌<◌, false};
 ghost use Rattle.atoms.specs.Assuming.{Joined, settled};
-ghost use Rattle.search.specs.Searches.{Searched, Started, undecided_in};
+ghost use Rattle.search.specs.Searches.{Searched, StartTrail, undecided_in};
 
 use crate::judging::examine;
 use crate::status::Status;
@@ -65,12 +65,12 @@ pub(crate) fn search(entries: &[Entry], trail: &mut Assumptions) -> Option<AtomS
             }
             // A block and no `or_else`: the first trial's guard lets go of the trail before the second begins.
             {
-                let trial = Trial::begin(trail, Literal { atom, holds: false });
+                let trial = Trial::begin(trail, Literal::negation(atom));
                 if let Some(valuation) = search(entries, trial.trail) {
                     return Some(valuation);
                 }
             }
-            let trial = Trial::begin(trail, Literal { atom, holds: true });
+            let trial = Trial::begin(trail, Literal::positive(atom));
             search(entries, trial.trail)
         }
     }
@@ -79,7 +79,7 @@ pub(crate) fn search(entries: &[Entry], trail: &mut Assumptions) -> Option<AtomS
 // The trail to begin with: the assumptions, and out the atoms that no entry names and that need not be in. Otherwise
 // each of these below a named atom would double the work of a refutation.
 pub(crate) fn start(entries: &[Entry], under: Assumptions) -> Assumptions
-    ensures { Started entries.now under result }
+    ensures { StartTrail entries.now under result }
 {
     let spare = named(entries).union(under.within).complement();
     Assumptions {

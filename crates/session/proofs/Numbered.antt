@@ -8,7 +8,7 @@ use Rattle.atoms.specs.declared.assumptions.Assumptions.{Assumptions}
 use Rattle.atoms.specs.declared.clauses.Literal.{Literal}
 use Rattle.atoms.proofs.Members.{has_none, has_or, has_one}
 use Rattle.naming.specs.declared.table.Table.{Table}
-use Rattle.session.specs.Assumed.{handle_in, Held, Assumes, KeepsIn}
+use Rattle.session.specs.Assumed.{handle_in, AskedHeld, Assumes, KeepsIn}
 
 pub assumes_none : (t : Table) (q : ℕ) → Assumes t q 0 (record { within = record { bits = 0 }; without = record { bits = 0 } })
 assumes_none t q = record { held = λ k h. absurd (omega arith); each = λ k h. absurd (omega arith); only = λ x e. absurd (nothing x x.holds e) }
@@ -20,12 +20,12 @@ assumes_none t q = record { held = λ k h. absurd (omega arith); each = λ k h. 
 pub keeps_none : (t : Table) (q : ℕ) (core : Assumptions) → KeepsIn t q core 0 0
 keeps_none t q core = record { part = λ k e. absurd (both_ways (bit 0 k) (has_none k) e); whole = λ k h. absurd (omega arith) }
 
-pub keeps_passed : (t : Table) (q n kept : ℕ) (core : Assumptions) → KeepsIn t q core n kept → (Held t q n → false ≡ has core.within (handle_in t n)) → KeepsIn t q core (n + 1) kept
+pub keeps_passed : (t : Table) (q n kept : ℕ) (core : Assumptions) → KeepsIn t q core n kept → (AskedHeld t q n → false ≡ has core.within (handle_in t n)) → KeepsIn t q core (n + 1) kept
 keeps_passed t q n kept core s f = record {
   part = λ k e. (let (h, b) = s.part k e in (omega arith, b));
   whole = λ k h d e. elim (cases_lt k n) [
     | inl c ↦ s.whole k c d e
-    | inr c ↦ (let z : k ≡ n = omega arith in absurd (both_ways _ (sym (f (subst (Held t q) z d))) (subst (λ i. has core.within (handle_in t i) ≡ true) z e)))
+    | inr c ↦ (let z : k ≡ n = omega arith in absurd (both_ways _ (sym (f (subst (AskedHeld t q) z d))) (subst (λ i. has core.within (handle_in t i) ≡ true) z e)))
   ];
 }
 

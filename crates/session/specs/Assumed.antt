@@ -1,4 +1,4 @@
--- What a question assumes of the rules that it asks, the numbers below n, and which of them a core keeps.
+-- For proofs alone: what a question assumes of the rules that it asks, the numbers below n, and which of them a core keeps.
 use Rattle.std.specs.Prelude.{◌≡◌, ℕ, ◌<◌, ◌≤◌, true, [], length}
 use Rattle.atoms.specs.Assuming.{assumes}
 use Rattle.atoms.specs.Bits.{bit}
@@ -16,30 +16,31 @@ abbrev pub handle_in : Table → ℕ → ℕ
 handle_in t k = handle_of (view_of t (λ _. [])) k
 
 -- rule k is asked and held
-pub record Held (t : Table) (q k : ℕ) : Type 0 where
+pub record AskedHeld (t : Table) (q k : ℕ) : Type 0 where
   pub asked : bit q k ≡ true
   pub held : k < length (rules_in t)
   pub small : handle_in t k < 64
 
 -- the rules asked are held, and just their handles are assumed, in
 pub record Assumes (t : Table) (q n : ℕ) (under : Assumptions) : Type 0 where
-  pub held : (k : ℕ) → k < n → bit q k ≡ true → Held t q k
+  pub held : (k : ℕ) → k < n → bit q k ≡ true → AskedHeld t q k
   pub each : (k : ℕ) → k < n → bit q k ≡ true → has under.within (handle_in t k) ≡ true
   pub only : (x : Literal) → assumes under x ≡ true → (k : ℕ) × (k < n) × (bit q k ≡ true) × (x ≡ record { atom = handle_in t k; holds = true })
 
--- the fault names the lowest rule asked that is not held
-pub record Unheld (t : Table) (q k : ℕ) : Type 0 where
+-- the lowest number asked that is no rule's
+pub record LowestUnknown (t : Table) (q k : ℕ) : Type 0 where
   pub asked : bit q k ≡ true
   pub small : k < 16
   pub beyond : length (rules_in t) ≤ k
   pub lowest : (j : ℕ) → j < k → bit q j ≡ true → j < length (rules_in t)
 
-pub record Refuses (t : Table) (q : ℕ) (fault : QuestionFault) : Type 0 where
+-- the fault that names it
+pub record NamesUnknown (t : Table) (q : ℕ) (fault : QuestionFault) : Type 0 where
   pub number : ℕ
   pub is : fault ≡ UnknownRule number
-  pub unheld : Unheld t q number
+  pub unknown : LowestUnknown t q number
 
 -- of the rules asked and held, just those whose handles are in the core
 pub record KeepsIn (t : Table) (q : ℕ) (core : Assumptions) (n kept : ℕ) : Type 0 where
   pub part : (k : ℕ) → bit kept k ≡ true → (k < n) × (bit q k ≡ true)
-  pub whole : (k : ℕ) → k < n → Held t q k → has core.within (handle_in t k) ≡ true → bit kept k ≡ true
+  pub whole : (k : ℕ) → k < n → AskedHeld t q k → has core.within (handle_in t k) ≡ true → bit kept k ≡ true

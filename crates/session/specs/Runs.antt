@@ -3,7 +3,7 @@ use Rattle.std.specs.Prelude.{◌≡◌, List, [], ◌∷◌, length}
 use Rattle.modal.specs.Rules.{rows_of}
 use Rattle.clausal.specs.States.{State}
 use Rattle.law.specs.Calls.{Call, add, question, forget, Reply, forgotten}
-use Rattle.law.specs.Runs.{History, Led, calls_of, AgreeAll, add_reply}
+use Rattle.law.specs.Runs.{History, LeadsTo, NeverContradicted, add_reply}
 use Rattle.law.specs.Verdicts.{Sound}
 use Rattle.session.specs.Replies.{numbers_of, question_reply}
 use Rattle.session.specs.declared.runs.Call.{Call as Asking}
@@ -30,10 +30,10 @@ history_from h (c ∷ cs) (r ∷ rs) = history_from ((call_of c, reply_of r) ∷
 abbrev pub history : List Asking → List Answer → History
 history = history_from []
 
--- Each call has its reply, the calls with these replies lead from a new session to a sound one, and they contradict those of no other history of the same calls, over whatever oracle.
+-- Each call has its reply, the calls with these replies lead from a new session to a sound one, and no history of the same calls, over whatever oracle, contradicts them.
 pub record Ran (calls : List Asking) (replies : List Answer) : Type 0 where
   pub each : length replies ≡ length calls
   pub left : State
-  pub led : Led (history calls replies) left
+  pub led : LeadsTo (history calls replies) left
   pub sound : Sound left
-  pub agrees : (k : History) (t : State) → Led k t → calls_of k ≡ calls_of (history calls replies) → AgreeAll (history calls replies) k
+  pub agrees : NeverContradicted (history calls replies)

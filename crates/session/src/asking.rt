@@ -2,15 +2,12 @@
 ghost use Rattle.std.specs.Prelude.{◌≡◌, ◌<◌, true, MatchResult};
 ghost use Rattle.atoms.specs.Bits.{bit};
 ghost use Rattle.atoms.specs.Sets.{has};
-ghost use Rattle.session.specs.Assumed.{handle_in, Held, Assumes, Refuses, KeepsIn};
+ghost use Rattle.session.specs.Assumed.{handle_in, AskedHeld, Assumes, NamesUnknown, KeepsIn};
 
 use crate::faults::QuestionFault;
 use atoms::assumptions::Assumptions;
 use atoms::clauses::Literal;
-use naming::table::Table;
-
-// How many rules a question can ask.
-const RULES: u8 = 16;
+use naming::table::{RULES, Table};
 
 fn is_asked(rules: u16, number: u8) -> bool
     requires { number < 16 }
@@ -21,18 +18,15 @@ fn is_asked(rules: u16, number: u8) -> bool
 
 // The handles of the rules asked, all in.
 pub(crate) fn assume(table: &Table, rules: u16) -> Result<Assumptions, QuestionFault>
-    ensures { MatchResult result (λ under. Assumes table.now rules 16 under) (λ fault. Refuses table.now rules fault) }
+    ensures { MatchResult result (λ under. Assumes table.now rules 16 under) (λ fault. NamesUnknown table.now rules fault) }
 {
     let mut under = Assumptions::NONE;
-    for number in 0..RULES {
+    for number in 0..RULES as u8 {
         if is_asked(rules, number) {
             let handle = table
                 .handle(number)
                 .ok_or(QuestionFault::UnknownRule(number))?;
-            under = under.with(Literal {
-                atom: handle,
-                holds: true,
-            });
+            under = under.with(Literal::positive(handle));
         }
     }
     Ok(under)
@@ -42,7 +36,7 @@ pub(crate) fn assume(table: &Table, rules: u16) -> Result<Assumptions, QuestionF
 fn keeps(table: &Table, rules: u16, core: Assumptions, number: u8) -> bool
     requires { number < 16 }
     ensures asked { result ≡ true → bit rules number ≡ true }
-    ensures held { Held table.now rules number → result ≡ has core.within (handle_in table.now number) }
+    ensures held { AskedHeld table.now rules number → result ≡ has core.within (handle_in table.now number) }
 {
     let Some(handle) = table.handle(number) else {
         return false;
@@ -55,7 +49,7 @@ pub(crate) fn kept_in(table: &Table, rules: u16, core: Assumptions) -> u16
     ensures { KeepsIn table.now rules core 16 result }
 {
     let mut kept = 0;
-    for number in 0..RULES {
+    for number in 0..RULES as u8 {
         if keeps(table, rules, core, number) {
             kept |= 1 << number;
         }

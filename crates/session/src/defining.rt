@@ -1,15 +1,13 @@
 // Handing definitions to an oracle.
-ghost use Rattle.naming.specs.Tables.{definitions_at, Started};
+ghost use Rattle.naming.specs.Tables.{definitions_at, StartEntries};
 ghost use Rattle.oracle.specs.Oracles.{Clears};
-ghost use Rattle.session.specs.Effects.{AllDefined, Defined};
+ghost use Rattle.session.specs.Defined.{AllDefined, Defined};
 
 use atoms::clauses::{Clause, Entry, Literal, Mark};
 use atoms::levels::Level;
+use atoms::sets::TRUE_ATOM;
 use naming::definitions::Definitions;
 use oracle::Oracle;
-
-// The atom that is always true.
-const TRUE_ATOM: u8 = 15;
 
 // Appends definitions of these clauses to a level, as far as it has room for them.
 fn define<O: Oracle>(oracle: &mut O, level: Level, clauses: &[Clause])
@@ -30,12 +28,9 @@ fn define<O: Oracle>(oracle: &mut O, level: Level, clauses: &[Clause])
 // Gives each level of an oracle without entries its first clause, "atom 15".
 pub(crate) fn start<O: Oracle>(oracle: &mut O)
     requires { Clears (O.Oracle.entries oracle.old) }
-    ensures { Started (O.Oracle.entries oracle.new) }
+    ensures { StartEntries (O.Oracle.entries oracle.new) }
 {
-    let first = Clause::NONE.with(Literal {
-        atom: TRUE_ATOM,
-        holds: true,
-    });
+    let first = Clause::NONE.with(Literal::positive(TRUE_ATOM));
     for level in &Level::ALL {
         define(oracle, *level, &[first]);
     }

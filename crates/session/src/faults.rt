@@ -58,7 +58,7 @@ impl Fault for QuestionFault {
 #[derive(Clone, Copy, PartialEq, Eq, Debug)]
 pub enum RuleFault {
     /// No rule has this number.
-    NotAccepted(u8),
+    UnknownRule(u8),
     /// The rule is held, and its bytes do not fit.
     NotWritten(WriteFault),
 }
@@ -79,7 +79,7 @@ impl fmt::Display for RuleFault {
 
     fn fmt<W: fmt::Write>(&self, f: &mut fmt::Formatter<W>) -> fmt::Result {
         match *self {
-            RuleFault::NotAccepted(number) => write!(f, "no rule has the number {number}"),
+            RuleFault::UnknownRule(number) => write!(f, "no rule has the number {number}"),
             RuleFault::NotWritten(fault) => write!(f, "{fault}"),
         }
     }
@@ -92,14 +92,14 @@ impl Fault for RuleFault {
 
     fn number(self) -> u8 {
         match self {
-            RuleFault::NotAccepted(_) => 8,
+            RuleFault::UnknownRule(_) => 8,
             RuleFault::NotWritten(fault) => fault.number(),
         }
     }
 
     fn detail(self) -> u64 {
         match self {
-            RuleFault::NotAccepted(number) => u64::from(number),
+            RuleFault::UnknownRule(number) => u64::from(number),
             RuleFault::NotWritten(fault) => fault.detail(),
         }
     }

@@ -1,6 +1,6 @@
 // A whole run: a list of calls on a new session.
 ghost use Rattle.std.specs.Prelude.{IfOk};
-ghost use Rattle.law.specs.Runs.{Owes};
+ghost use Rattle.law.specs.Runs.{CallLaw};
 ghost use Rattle.session.specs.View.{view};
 ghost use Rattle.session.specs.Runs.{call_of, reply_of, Ran};
 
@@ -31,7 +31,7 @@ pub enum Reply {
 impl<O: Oracle> Session<O> {
     // Carries out a call.
     fn carry_out(&mut self, call: Call) -> Reply
-        ensures { Owes (view O.Oracle.entries self.old) (call_of call) (reply_of result) (view O.Oracle.entries self.new) }
+        ensures { CallLaw (view O.Oracle.entries self.old) (call_of call) (reply_of result) (view O.Oracle.entries self.new) }
     {
         match call {
             Call::Add(rule) => Reply::Added(self.add(rule)),

@@ -126,15 +126,15 @@ mod tests {
         assert_eq!(rt; session.write(1, &mut buffer), Ok(4));
         assert_eq!(rt; buffer, [2, 0, 3, 0, 9]);
         // 8 is tried before 10
-        assert_eq!(rt; session.write(2, &mut []), Err(RuleFault::NotAccepted(2)));
+        assert_eq!(rt; session.write(2, &mut []), Err(RuleFault::UnknownRule(2)));
         let short = RuleFault::NotWritten(WriteFault::TooShort(4));
         assert_eq!(rt; session.write(1, &mut [9; 3]), Err(short));
         assert_eq!(rt; (short.number(), short.detail()), (10, 4));
         Ok(())
     }
 
-    // A letter, and rows that each join the row before with the letter: a name for each, and one for the handle.
-    fn joined(heap: Global, count: u8) -> Result<Rule, Fail> {
+    // A letter, and rows that are each the row before and the letter: a name for each, and one for the handle.
+    fn nested_ands(heap: Global, count: u8) -> Result<Rule, Fail> {
         let mut bytes = vec![in heap; 2, 0]?;
         for row in 0..count {
             bytes.extend_from_slice(&[4, row, 0])?;
@@ -143,33 +143,36 @@ mod tests {
     }
 
     #[test]
-    fn rules_and_names_end(rt: HostRuntime) -> Result<(), Fail> {
+    fn rules_and_names_are_limited(rt: HostRuntime) -> Result<(), Fail> {
         let heap = rt.alloc();
         let mut session = Session::new(Searcher::new());
         for number in 0..16u8 {
             assert_eq!(rt; session.add(rule(&P)?), Ok(number));
         }
-        assert_eq!(rt; session.add(joined(heap, 48)?), Err(AddFault::TooManyRules));
+        assert_eq!(rt;
+            session.add(nested_ands(heap, 48)?),
+            Err(AddFault::TooManyRules)
+        );
         assert_eq!(rt; session.question(0xffff, &mut []), Ok(Verdict::Open(1)));
         let mut session = Session::new(Searcher::new());
         assert_eq!(rt;
-            session.add(joined(heap, 48)?),
+            session.add(nested_ands(heap, 48)?),
             Err(AddFault::TooManyNames(0))
         );
-        assert_eq!(rt; session.add(joined(heap, 47)?), Ok(0));
+        assert_eq!(rt; session.add(nested_ands(heap, 47)?), Ok(0));
         assert_eq!(rt; session.question(1, &mut []), Ok(Verdict::Open(1)));
         Ok(())
     }
 
-    // Box r or box not r for eight letters r, and diamond false: each dead end is learnt as a clause with eight names, and
-    // there are 256 of them.
+    // Box r or box not r for eight letters r, and diamond false: the diamond's part closes under each of the 256 ways to
+    // choose, and each time the world learns one clause.
     fn eight_choices(heap: Global) -> Result<Rule, Fail> {
         let mut bytes: Vec<u8> = Vec::new(heap);
         for r in 0..8u8 {
             let row = 5 * r;
             bytes.extend_from_slice(&[2, r, 6, row, 3, row, 6, row + 2, 5, row + 1, row + 3])?;
         }
-        // rows 40 and 41, then the joins
+        // rows 40 and 41, then the ands
         bytes.extend_from_slice(&[0, 7, 40, 4, 41, 4])?;
         for r in 1..8u8 {
             bytes.extend_from_slice(&[4, 41 + r, 5 * r + 4])?;
@@ -190,11 +193,8 @@ mod tests {
         assert_eq!(rt; session.question(1, &mut sheet), Err(fault));
         session.forget();
         assert_eq!(rt; session.question(1, &mut sheet), Err(fault));
-        // what was learnt is about parts: the empty question is still open
-        assert_eq!(rt;
-            Session::new(Searcher::new()).question(0, &mut sheet),
-            Ok(Verdict::Open(1))
-        );
+        // what was learnt is about parts: the question for no rule is still open
+        assert_eq!(rt; session.question(0, &mut sheet), Ok(Verdict::Open(1)));
         Ok(())
     }
 

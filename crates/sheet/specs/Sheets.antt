@@ -27,15 +27,17 @@ row_stands before r =
     (r.parent == 0 && r.level == 0)
     (nat_lt r.parent (length before) && nat_le r.level 7 && r.level == (slice_index_or before r.parent no_row).level + 1)
 
+-- a tree has a root
 abbrev pub rows_or_none : List SheetRow → Result (List SheetRow) SheetFault
 rows_or_none [] = Err NoRoot
 rows_or_none (r ∷ rs) = Ok (r ∷ rs)
 
--- the rows before the first blank, some of which are read, or the lowest unlawful one
+-- the rows before the first blank, or the lowest unlawful one of them, where some rows are read
 abbrev pub shown_from : List SheetRow → List SheetRow → Result (List SheetRow) SheetFault
 shown_from before [] = rows_or_none before
 shown_from before (r ∷ rs) = cond (is_blank_row r) (rows_or_none before) (cond (row_stands before r) (shown_from (before ++ r ∷ []) rs) (Err (Unlawful (length before))))
 
+-- the rows that a sheet shows, or why it shows none
 abbrev pub shown_rows : List SheetRow → Result (List SheetRow) SheetFault
 shown_rows rs = shown_from [] rs
 
@@ -44,6 +46,7 @@ abbrev pub successors_of : ℕ → ℕ → List SheetRow → List ℕ
 successors_of p n [] = []
 successors_of p n (r ∷ rs) = cond (r.parent == p && nat_lt 0 n) (n ∷ successors_of p (suc n) rs) (successors_of p (suc n) rs)
 
+-- the worlds of the rows from number n on: each has its row's letters, and its successors are the rows with it as their parent
 abbrev pub worlds_from : List SheetRow → ℕ → List SheetRow → List World
 worlds_from tree n [] = []
 worlds_from tree n (r ∷ rs) = record { letters = has r.letters; successors = successors_of n 0 tree } ∷ worlds_from tree (suc n) rs
@@ -56,11 +59,11 @@ worlds_of tree = worlds_from tree 0 tree
 abbrev pub Earlier : List SheetRow → Type 0
 Earlier tree = (k : ℕ) → 0 < k → k < length tree → (slice_index_or tree k no_row).parent < k
 
--- the rows that a sheet shows are the worlds of a Kripke model
+-- the tree is what the sheet shows, and its rows are the worlds of a Kripke model
 pub record ShownTree (sheet tree : List SheetRow) : Type 0 where
   pub rows : shown_rows sheet ≡ Ok tree
   pub model : Model
-  pub drawn : model.worlds ≡ worlds_of tree
+  pub worlds : model.worlds ≡ worlds_of tree
 
 -- whether the root of the shown rows meets what the rule says
 abbrev pub truth_on : Result (List SheetRow) SheetFault → List Row → Result Bool SheetFault

@@ -1,5 +1,5 @@
-ghost use Rattle.std.specs.Prelude.{◌≡◌, ◌+◌, ◌-◌, ◌≤◌, [], ◌∷◌, ◌++◌, length, is_some, if◌then◌else◌, ◌==◌, nat_lt, Ok, Err};
-ghost use Rattle.stack.specs.Entries.{entries_of, below_top, slots_of, lender_of};
+ghost use Rattle.std.specs.Prelude.{◌≡◌, ◌≤◌, [], ◌∷◌, ◌++◌, length, is_some, if◌then◌else◌, ◌==◌, nat_lt, Ok, Err};
+ghost use Rattle.stack.specs.Entries.{entries_of, below_top, has_room, slots_of, lender_of, SameSlots};
 ghost use Rattle.std.specs.Option.{option_to_list};
 
 use crate::Stack;
@@ -8,7 +8,6 @@ impl<'a, T: Copy> Stack<'a, T> {
     /// The empty stack over the slots.
     pub fn new(slots: &'a mut [T]) -> Stack<'a, T>
         ensures entries { entries_of result ≡ [] }
-        ensures len { length (entries_of result) ≡ 0 }
         ensures same { slots_of result ≡ slots.old }
         ensures lent { lender_of result ≡ slots.entry.ghost_name }
     {
@@ -30,13 +29,11 @@ impl<'a, T: Copy> Stack<'a, T> {
         self.len == 0
     }
 
-    /// Puts `x` on top. If every slot is taken, `x` is handed back, and nothing is altered.
+    /// Puts `x` on top. If every slot is taken, `x` is handed back, and the entries stay.
     pub fn push(&mut self, x: T) -> Result<(), T>
-        ensures answer { result ≡ (if nat_lt (length (entries_of self.old)) (length (slots_of self.old)) then Ok tt else Err x) }
-        ensures entries { entries_of self.new ≡ (if nat_lt (length (entries_of self.old)) (length (slots_of self.old)) then entries_of self.old ++ x ∷ [] else entries_of self.old) }
-        ensures len { length (entries_of self.new) ≡ (if nat_lt (length (entries_of self.old)) (length (slots_of self.old)) then length (entries_of self.old) + 1 else length (entries_of self.old)) }
-        ensures room { length (slots_of self.new) ≡ length (slots_of self.old) }
-        ensures lent { lender_of self.new ≡ lender_of self.old }
+        ensures answer { result ≡ (if has_room self.old then Ok tt else Err x) }
+        ensures entries { entries_of self.new ≡ (if has_room self.old then entries_of self.old ++ x ∷ [] else entries_of self.old) }
+        ensures slots { SameSlots self.old self.new }
     {
         if self.len < self.slots.len() {
             self.slots[self.len] = x;
@@ -51,9 +48,7 @@ impl<'a, T: Copy> Stack<'a, T> {
     pub fn pop(&mut self) -> Option<T>
         ensures entries { entries_of self.old ≡ entries_of self.new ++ option_to_list result }
         ensures some { is_some result ≡ nat_lt 0 (length (entries_of self.old)) }
-        ensures len { length (entries_of self.new) ≡ length (entries_of self.old) - 1 }
-        ensures room { length (slots_of self.new) ≡ length (slots_of self.old) }
-        ensures lent { lender_of self.new ≡ lender_of self.old }
+        ensures slots { SameSlots self.old self.new }
     {
         let top = self.top()?;
         self.len -= 1;
@@ -72,9 +67,7 @@ impl<'a, T: Copy> Stack<'a, T> {
     pub fn replace_top(&mut self, x: T) -> Result<(), T>
         ensures answer { result ≡ (if nat_lt 0 (length (entries_of self.old)) then Ok tt else Err x) }
         ensures entries { entries_of self.new ≡ (if nat_lt 0 (length (entries_of self.old)) then below_top self.old ++ x ∷ [] else entries_of self.old) }
-        ensures len { length (entries_of self.new) ≡ length (entries_of self.old) }
-        ensures room { length (slots_of self.new) ≡ length (slots_of self.old) }
-        ensures lent { lender_of self.new ≡ lender_of self.old }
+        ensures slots { SameSlots self.old self.new }
     {
         if self.len == 0 {
             return Err(x);

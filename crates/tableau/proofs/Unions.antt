@@ -1,21 +1,16 @@
 -- Two Kripke models side by side: the worlds of the second stand after those of the first, and each world meets what it met before.
-use Rattle.std.proofs.Common.{◌≡◌, ℕ, zero, suc, ◌+◌, ◌<◌, Bool, not, ◌&&◌, ◌||◌, List, [], ◌∷◌, ◌++◌, length, map, sym, refl, ap, ◌∙◌, ap₂, inl, inr, subst, arith, length-append}
+use Rattle.std.proofs.Common.{◌≡◌, ℕ, zero, suc, ◌+◌, ◌<◌, not, ◌&&◌, ◌||◌, List, [], ◌∷◌, ◌++◌, length, map, sym, refl, ap, ◌∙◌, ap₂, inl, inr, subst, arith, length-append}
 use Rattle.std.proofs.lemmas.List.{get_or_append_left, get_or-append-add, length-map}
-use Rattle.lists.specs.Lists.{every, some, In, here, there}
+use Rattle.std.proofs.lemmas.List.Folds.{list_all-map}
+use Rattle.lists.specs.Lists.{every, some, In}
+use Rattle.lists.proofs.Tests.{every_same, some_same, some_map}
 use Rattle.lists.proofs.Members.{get_or_in, in_either}
+use Rattle.lists.proofs.Maps.{mapped_in}
 use Rattle.modal.specs.Kripke.{Formula, falsum, verum, letter, neg, conj, disj, box, dia, World, bare, world, meets}
 
 -- every successor of the worlds is one of the first b worlds
 abbrev pub Closed : ℕ → List World → Type 0
 Closed b ws = (x : World) → In x ws → (v : ℕ) → In v x.successors → v < b
-
-pub every_same : {A : Type 0} (p q : A → Bool) (xs : List A) → ((x : A) → In x xs → p x ≡ q x) → every p xs ≡ every q xs
-every_same p q [] h = refl
-every_same p q (x ∷ xs) h = ap₂ (λ a b. a && b) (h x here) (every_same p q xs (λ y i. h y (there i)))
-
-pub some_same : {A : Type 0} (p q : A → Bool) (xs : List A) → ((x : A) → In x xs → p x ≡ q x) → some p xs ≡ some q xs
-some_same p q [] h = refl
-some_same p q (x ∷ xs) h = ap₂ (λ a b. a || b) (h x here) (some_same p q xs (λ y i. h y (there i)))
 
 -- the first worlds do not see those after them
 module _ (ws vs : List World) (closed : Closed (length ws) ws) where
@@ -46,14 +41,6 @@ world_later n [] w = refl
 world_later n (x ∷ ws) zero = refl
 world_later n (x ∷ ws) (suc w) = world_later n ws w
 
-every_map : {A B : Type 0} (f : A → B) (p : B → Bool) (xs : List A) → every p (map f xs) ≡ every (λ x. p (f x)) xs
-every_map f p [] = refl
-every_map f p (x ∷ xs) = ap (λ b. p (f x) && b) (every_map f p xs)
-
-some_map : {A B : Type 0} (f : A → B) (p : B → Bool) (xs : List A) → some p (map f xs) ≡ some (λ x. p (f x)) xs
-some_map f p [] = refl
-some_map f p (x ∷ xs) = ap (λ b. p (f x) || b) (some_map f p xs)
-
 module _ (us ws : List World) where
   abbrev both : List World
   both = us ++ map (later (length us)) ws
@@ -70,15 +57,10 @@ module _ (us ws : List World) where
   meets_back (disj f g) w = ap₂ (λ a b. a || b) (meets_back f w) (meets_back g w)
   meets_back (box f) w =
       ap (λ (x : World). every (meets f both) x.successors) (world_back w)
-      ∙ (every_map (λ v. length us + v) (meets f both) (world ws w).successors ∙ every_same _ _ (world ws w).successors (λ v i. meets_back f v))
+      ∙ (list_all-map (meets f both) (λ v. length us + v) (world ws w).successors ∙ every_same _ _ (world ws w).successors (λ v i. meets_back f v))
   meets_back (dia f) w =
       ap (λ (x : World). some (meets f both) x.successors) (world_back w)
       ∙ (some_map (λ v. length us + v) (meets f both) (world ws w).successors ∙ some_same _ _ (world ws w).successors (λ v i. meets_back f v))
-
-in_map : {A B : Type 0} (f : A → B) (xs : List A) {y : B} → In y (map f xs) → (x : A) × In x xs × (f x ≡ y)
-in_map f [] i = elim i [ ]
-in_map f (x ∷ xs) here = (x, here, refl)
-in_map f (x ∷ xs) (there i) = let (z, j, e) = in_map f xs i in (z, there j, e)
 
 -- two closed models side by side are closed
 pub closed_both : (us ws : List World) → Closed (length us) us → Closed (length ws) ws → Closed (length (us ++ map (later (length us)) ws)) (us ++ map (later (length us)) ws)
@@ -87,7 +69,7 @@ closed_both us ws h k x i v j =
     elim (in_either us (map (later (length us)) ws) i) [
       | inl l ↦ (let small = h x l v j in omega arith)
       | inr r ↦
-          let (y, m, e) = in_map (later (length us)) ws r in
-          let (u, n, q) = in_map (λ z. length us + z) y.successors (subst (λ (z : World). In v z.successors) (sym e) j) in
+          let (y, m, e) = mapped_in (later (length us)) ws r in
+          let (u, n, q) = mapped_in (λ z. length us + z) y.successors (subst (λ (z : World). In v z.successors) (sym e) j) in
           let small = k y m u n in omega arith
     ]

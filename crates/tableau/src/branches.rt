@@ -2,17 +2,17 @@
 //
 // A branch is open if some world of some Kripke model is as it asks.
 ghost use Rattle.std.specs.Prelude.{◌≡◌};
-ghost use Rattle.tableau.specs.Branches.{Answers, AnswersAll, Consistent, asks, branch_of};
-ghost use Rattle.tableau.specs.Claims.{claims_of, literals_of};
+ghost use Rattle.tableau.specs.Branches.{DecidesBranch, DecidesAll, Consistent, asks, branch_of};
+ghost use Rattle.tableau.specs.Claims.{claims_of, letters_of};
 
 use crate::claims::Step;
-use crate::linked::{Claims, Literals};
+use crate::linked::{Claims, SignedLetters};
 
-// What claims on a world came down to: literals that are true there, claims on each of its successors, and claims on
+// What claims on a world came down to: signed letters that are right there, claims on each of its successors, and claims on
 // one of them each.
 #[derive(Clone, Copy)]
 struct Settled<'a> {
-    literals: &'a Literals<'a>,
+    letters: &'a SignedLetters<'a>,
     everywhere: &'a Claims<'a>,
     somewhere: &'a Claims<'a>,
 }
@@ -20,10 +20,10 @@ struct Settled<'a> {
 // Whether the claims are right at some world of some Kripke model.
 #[cycle(branches)]
 pub(crate) fn can_be_right(claims: &Claims<'_>) -> bool
-    ensures { Answers (asks (claims_of claims.now)) result }
+    ensures { DecidesBranch (asks (claims_of claims.now)) result }
 {
     let nothing = Settled {
-        literals: &Literals::Empty,
+        letters: &SignedLetters::Empty,
         everywhere: &Claims::Empty,
         somewhere: &Claims::Empty,
     };
@@ -33,8 +33,8 @@ pub(crate) fn can_be_right(claims: &Claims<'_>) -> bool
 // Whether the branch of these claims on the world, and of what is settled, is open.
 #[cycle(branches)]
 fn is_open(claims: &Claims<'_>, settled: Settled<'_>) -> bool
-    requires { Consistent (literals_of settled.literals.now) }
-    ensures { Answers (branch_of claims.now settled.entry) result }
+    requires { Consistent (letters_of settled.letters.now) }
+    ensures { DecidesBranch (branch_of claims.now settled.entry) result }
 {
     let Claims::More(claim, rest) = claims else {
         return each_can_be_right(settled.somewhere, settled.everywhere);
@@ -42,13 +42,10 @@ fn is_open(claims: &Claims<'_>, settled: Settled<'_>) -> bool
     match claim.step() {
         Step::Never => false,
         Step::Always => is_open(rest, settled),
-        Step::Letter(literal) => {
-            let literals = &Literals::More(literal, settled.literals);
-            let more = Settled {
-                literals,
-                ..settled
-            };
-            !settled.literals.contains(literal.opposite()) && is_open(rest, more)
+        Step::Letter(letter) => {
+            let letters = &SignedLetters::More(letter, settled.letters);
+            let more = Settled { letters, ..settled };
+            !settled.letters.contains(letter.opposite()) && is_open(rest, more)
         }
         Step::Same(c) => is_open(&Claims::More(c, &*rest), settled),
         Step::Both(c, d) => is_open(&Claims::More(c, &Claims::More(d, &*rest)), settled),
@@ -77,7 +74,7 @@ fn is_open(claims: &Claims<'_>, settled: Settled<'_>) -> bool
 // Whether each of the claims can be right together with all of `everywhere`.
 #[cycle(branches)]
 fn each_can_be_right(claims: &Claims<'_>, everywhere: &Claims<'_>) -> bool
-    ensures { AnswersAll (claims_of everywhere.now) (claims_of claims.now) result }
+    ensures { DecidesAll (claims_of everywhere.now) (claims_of claims.now) result }
 {
     let Claims::More(claim, rest) = claims else {
         return true;

@@ -1,9 +1,9 @@
 // Claims on a world, and what a claim comes down to by its outermost connective.
-ghost use Rattle.std.specs.Prelude.{◌≡◌, true, not, if◌then◌else◌, slice_index_or};
+ghost use Rattle.std.specs.Prelude.{◌≡◌, true, slice_index_or};
 ghost use Rattle.modal.specs.Rows.{lawful, says};
 ghost use Rattle.modal.specs.Rules.{rows_of};
 ghost use Rattle.modal.specs.declared.row.Row.TheVariants.{False};
-ghost use Rattle.tableau.specs.Claims.{ComesTo, claimed, opposite, plainly};
+ghost use Rattle.tableau.specs.Claims.{ComesTo, claimed, opposite, plainly, step_of};
 
 use modal::row::Row;
 use modal::rule::Rule;
@@ -18,16 +18,16 @@ pub(crate) struct Claim<'a> {
 
 // A letter that is true, or with minus false.
 #[derive(Clone, Copy, PartialEq, Eq)]
-pub(crate) struct Literal {
+pub(crate) struct SignedLetter {
     pub(crate) letter: u8,
     pub(crate) plus: bool,
 }
 
-impl Literal {
-    pub(crate) fn opposite(self) -> Literal
+impl SignedLetter {
+    pub(crate) fn opposite(self) -> SignedLetter
         ensures { result ≡ opposite self }
     {
-        Literal {
+        SignedLetter {
             letter: self.letter,
             plus: !self.plus,
         }
@@ -39,7 +39,7 @@ impl Literal {
 pub(crate) enum Step<'a> {
     Never,
     Always,
-    Letter(Literal),
+    Letter(SignedLetter),
     Same(Claim<'a>),
     Both(Claim<'a>, Claim<'a>),
     Either(Claim<'a>, Claim<'a>),
@@ -71,62 +71,38 @@ impl<'a> Claim<'a> {
             .unwrap_or(Row::False)
     }
 
-    // The claim with the same sign on another row.
-    fn on(&self, row: u8) -> Claim<'a>
-        ensures { result ≡ record self.now { row = row } }
+    // The claim on another row of the rule.
+    fn on(&self, row: u8, plus: bool) -> Claim<'a>
+        ensures { result ≡ record self.now { row = row; plus = plus } }
     {
-        Claim { row, ..*self }
-    }
-
-    fn denied_on(&self, row: u8) -> Claim<'a>
-        ensures { result ≡ record self.now { row = row; plus = not self.now.plus } }
-    {
-        let plus = !self.plus;
         Claim { row, plus, ..*self }
     }
 
-    // What the claim comes down to: under minus, and and or change places, and so do box and diamond.
+    // The step of the claim, were this its row: under minus, and and or change places, and so do box and diamond.
+    fn step_on(&self, row: Row) -> Step<'a>
+        ensures { result ≡ step_of self.now row }
+    {
+        let plus = self.plus;
+        match (row, plus) {
+            (Row::False, true) | (Row::True, false) => Step::Never,
+            (Row::False, false) | (Row::True, true) => Step::Always,
+            (Row::Letter(letter), _) => Step::Letter(SignedLetter { letter, plus }),
+            (Row::Not(c), _) => Step::Same(self.on(c, !plus)),
+            (Row::And(c, e), true) | (Row::Or(c, e), false) => {
+                Step::Both(self.on(c, plus), self.on(e, plus))
+            }
+            (Row::And(c, e), false) | (Row::Or(c, e), true) => {
+                Step::Either(self.on(c, plus), self.on(e, plus))
+            }
+            (Row::Box(c), true) | (Row::Diamond(c), false) => Step::Everywhere(self.on(c, plus)),
+            (Row::Box(c), false) | (Row::Diamond(c), true) => Step::Somewhere(self.on(c, plus)),
+        }
+    }
+
+    // What the claim comes down to.
     pub(crate) fn step(&self) -> Step<'a>
         ensures { ComesTo (claimed self.now) result }
     {
-        match self.own_row() {
-            Row::False => constant(!self.plus),
-            Row::True => constant(self.plus),
-            Row::Letter(letter) => Step::Letter(Literal {
-                letter,
-                plus: self.plus,
-            }),
-            Row::Not(c) => Step::Same(self.denied_on(c)),
-            Row::And(c, e) => pair(self.plus, self.on(c), self.on(e)),
-            Row::Or(c, e) => pair(!self.plus, self.on(c), self.on(e)),
-            Row::Box(c) => onward(self.plus, self.on(c)),
-            Row::Diamond(c) => onward(!self.plus, self.on(c)),
-        }
-    }
-}
-
-fn constant<'a>(always: bool) -> Step<'a>
-    ensures { result ≡ (if always then Step.Always else Step.Never) }
-{
-    if always { Step::Always } else { Step::Never }
-}
-
-fn pair<'a>(both: bool, one: Claim<'a>, other: Claim<'a>) -> Step<'a>
-    ensures { result ≡ (if both then Step.Both one.entry other.entry else Step.Either one.entry other.entry) }
-{
-    if both {
-        Step::Both(one, other)
-    } else {
-        Step::Either(one, other)
-    }
-}
-
-fn onward<'a>(everywhere: bool, claim: Claim<'a>) -> Step<'a>
-    ensures { result ≡ (if everywhere then Step.Everywhere claim.entry else Step.Somewhere claim.entry) }
-{
-    if everywhere {
-        Step::Everywhere(claim)
-    } else {
-        Step::Somewhere(claim)
+        self.step_on(self.own_row())
     }
 }

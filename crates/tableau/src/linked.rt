@@ -1,9 +1,9 @@
-// Lists of claims and of literals that grow at the front: the rest of a list is lent, so it may be the rest of many.
+// Lists of claims and of signed letters that grow at the front: the rest of a list is lent, so it may be the rest of many.
 ghost use Rattle.std.specs.Prelude.{◌↔◌, IsTrue};
 ghost use Rattle.lists.specs.Lists.{In};
-ghost use Rattle.tableau.specs.Claims.{literals_of};
+ghost use Rattle.tableau.specs.Claims.{letters_of};
 
-use crate::claims::{Claim, Literal};
+use crate::claims::{Claim, SignedLetter};
 
 #[derive(Drop)]
 pub(crate) enum Claims<'a> {
@@ -12,18 +12,18 @@ pub(crate) enum Claims<'a> {
 }
 
 #[derive(Drop)]
-pub(crate) enum Literals<'a> {
+pub(crate) enum SignedLetters<'a> {
     Empty,
-    More(Literal, &'a Literals<'a>),
+    More(SignedLetter, &'a SignedLetters<'a>),
 }
 
-impl Literals<'_> {
-    pub(crate) fn contains(&self, literal: Literal) -> bool
-        ensures { IsTrue result ↔ In literal (literals_of self.now) }
+impl SignedLetters<'_> {
+    pub(crate) fn contains(&self, letter: SignedLetter) -> bool
+        ensures { IsTrue result ↔ In letter (letters_of self.now) }
     {
         match self {
-            Literals::Empty => false,
-            Literals::More(first, rest) => *first == literal || rest.contains(literal),
+            SignedLetters::Empty => false,
+            SignedLetters::More(first, rest) => *first == letter || rest.contains(letter),
         }
     }
 }

@@ -3,7 +3,7 @@ use Rattle.std.proofs.lemmas.Bool.Decides.{nat_tests}
 use Rattle.atoms.specs.Sets.{has}
 use Rattle.atoms.specs.declared.clauses.Entry.{Entry}
 use Rattle.atoms.specs.declared.sets.AtomSet.{AtomSet}
-use Rattle.exhaustive.specs.Exhausts.{Ends}
+use Rattle.exhaustive.specs.Exhausts.{FindsAmong}
 use Rattle.exhaustive.proofs.Varying.{wider, neither}
 use Rattle.exhaustive.proofs.+find.Goals as goal
 
@@ -22,7 +22,7 @@ out_here base to a e = grind (arith, nat_tests, e a)
 
 -- what the second half finds
 second : (es : List Entry) (free base rest ins outs : AtomSet) (a : ℕ) (r : Option AtomSet) → a < 64 → has free a ≡ true → ((i : ℕ) → has rest i ≡ has free i && not (eqb a i))
-    → ((i : ℕ) → has ins i ≡ has base i || (eqb a i && ltb i 64)) → ((i : ℕ) → has outs i ≡ has base i && not (eqb a i)) → Ends es rest ins None → Ends es rest outs r → Ends es free base r
+    → ((i : ℕ) → has ins i ≡ has base i || (eqb a i && ltb i 64)) → ((i : ℕ) → has outs i ≡ has base i && not (eqb a i)) → FindsAmong es rest ins None → FindsAmong es rest outs r → FindsAmong es free base r
 second es free base rest ins outs a None l own less i o f g =
     neither free base rest a less es ins outs (in_other base ins a i) (in_here base ins a l i) (out_other base outs a o) (out_here base outs a o) f g
 second es free base rest ins outs a (Some s) l own less i o f g = record { varies = wider free base rest a less outs s own (out_other base outs a o) g.varies; made = g.made }
@@ -30,4 +30,4 @@ second es free base rest ins outs a (Some s) l own less i o f g = record { varie
 pub returns-in-None : goal.returns-in-None
 returns-in-None t c =
     second c.args.entries.now c.args.free c.args.base c.remove-rest.result c.insert.result c.remove.result c.in-Some.atom c.find-in-None.result
-    c.in-Some.ensures.small c.in-Some.ensures.member c.remove-rest.ensures.rest c.insert.ensures c.remove.ensures.rest c.in-None.ensures c.find-in-None.ensures
+    c.in-Some.ensures.small c.in-Some.ensures.member c.remove-rest.ensures.rest c.insert.ensures.atoms c.remove.ensures.rest c.in-None.ensures c.find-in-None.ensures

@@ -20,8 +20,8 @@ impl EntryList {
     {
         EntryList {
             entries: ArrayVec::new(BLANK),
-            defined: 0,
-            taught: 0,
+            definition_count: 0,
+            learnt_count: 0,
         }
     }
 
@@ -36,8 +36,8 @@ impl EntryList {
         ensures { result ≡ room mark (held_of self.now) }
     {
         match mark {
-            Mark::Definition => self.defined < DEFINITIONS,
-            Mark::Learnt => self.taught < LEARNT,
+            Mark::Definition => self.definition_count < DEFINITIONS,
+            Mark::Learnt => self.learnt_count < LEARNT,
         }
     }
 
@@ -51,8 +51,8 @@ impl EntryList {
         }
         self.entries.push(entry).unwrap();
         match entry.mark {
-            Mark::Definition => self.defined += 1,
-            Mark::Learnt => self.taught += 1,
+            Mark::Definition => self.definition_count += 1,
+            Mark::Learnt => self.learnt_count += 1,
         }
         Ok(())
     }
@@ -70,6 +70,6 @@ impl EntryList {
             kept.push(*entry).unwrap();
         }
         self.entries = kept;
-        self.taught = 0;
+        self.learnt_count = 0;
     }
 }

@@ -9,7 +9,6 @@ use Rattle.atoms.specs.declared.sets.AtomSet.{AtomSet}
 use Rattle.atoms.proofs.Members.{has_none}
 use Rattle.atoms.proofs.Making.{blank}
 use Rattle.atoms.proofs.Obeying.{Follows, obeys_follows, follows_obeys, clash_never}
-use Rattle.atoms.proofs.Restricting.{free_named}
 use Rattle.oracle.specs.Oracles.{Unsatisfiable}
 use Rattle.plain.specs.Counts.{Part, NextPart}
 use Rattle.plain.proofs.Counting.{part_le}
@@ -36,7 +35,7 @@ falls u v m f e lf lm n =
     omega arith
 
 pub next-smaller : goal.next-smaller
-next-smaller c = falls c.loop-entry.counted c.next.counted c.in_ok-counted.counted c.intersection-free.result c.loop-entry.invariant.1 (omega arith) (omega arith) c.in_ok-counted.ensures
+next-smaller c = falls c.loop-entry.counted c.next.counted c.in_ok-counted.counted c.free-free.result c.loop-entry.invariant.1 (omega arith) (omega arith) c.in_ok-counted.ensures
 
 least : (u v f m : AtomSet) → u ≡ v → NextPart u.bits f.bits m.bits → (n : ℕ) → n < 2 ^ 64 → Part n f.bits → v.bits < n → m.bits ≤ n
 least u v f m e h = subst (λ (s : AtomSet). (n : ℕ) → n < 2 ^ 64 → Part n f.bits → s.bits < n → m.bits ≤ n) e h.least
@@ -45,36 +44,34 @@ pub next-preserved : goal.next-preserved
 next-preserved c =
     let v : AtomSet = c.next.counted in (
       c.in_ok-counted.ensures.part,
-      fail_more c.args.entries.now c.args.under c.intersection-free.result.bits v.bits c.in_ok-counted.counted.bits c.next.invariant.1
+      fail_more c.args.entries.now c.args.under c.free-free.result.bits v.bits c.in_ok-counted.counted.bits c.next.invariant.1
           (failed_here c.args.entries.now c.args.under v.bits c.union-valuation.result c.loop-entry.entry-index blank c.loop-entry-test.true
           c.union-valuation.ensures c.if-not-holds.ensures)
-          (least c.loop-entry.counted v c.intersection-free.result c.in_ok-counted.counted c.loop-entry.invariant.1 c.in_ok-counted.ensures),
+          (least c.loop-entry.counted v c.free-free.result c.in_ok-counted.counted c.loop-entry.invariant.1 c.in_ok-counted.ensures),
       omega arith,
     )
 
 pub returns-in_err-counted : goal.returns-in_err-counted
 returns-in_err-counted c =
     let v : AtomSet = c.next.counted in
-    let f = free_named c.args.entries.now c.args.under c.named.result c.undecided.result c.intersection-free.result (omega arith) c.named.ensures c.undecided.ensures c.intersection-free.ensures in
-    let last : v.bits ≡ c.intersection-free.result.bits = ap (λ (s : AtomSet). s.bits) (sym c.loop-entry.invariant.1) ∙ c.in_err-counted.ensures in
+    let last : v.bits ≡ c.free-free.result.bits = ap (λ (s : AtomSet). s.bits) (sym c.loop-entry.invariant.1) ∙ c.in_err-counted.ensures in
     let k : Unsatisfiable c.args.under c.args.entries.now =
-    unsatisfiable c.args.under c.args.entries.now (complete c.args.entries.now c.args.under c.intersection-free.result.bits f
-    (fail_all c.args.entries.now c.args.under c.intersection-free.result.bits v.bits last c.next.invariant.1
+    unsatisfiable c.args.under c.args.entries.now (complete c.args.entries.now c.args.under c.free-free.result.bits c.free-free.ensures
+    (fail_all c.args.entries.now c.args.under c.free-free.result.bits v.bits last c.next.invariant.1
     (failed_here c.args.entries.now c.args.under v.bits c.union-valuation.result c.loop-entry.entry-index blank c.loop-entry-test.true
     c.union-valuation.ensures c.if-not-holds.ensures))) in
     rw c.from_residual.ensures (record { finds = k; order = k })
 
 pub returns-in-next : goal.returns-in-next
 returns-in-next c =
-    let f = free_named c.args.entries.now c.args.under c.named.result c.undecided.result c.intersection-free.result (omega arith) c.named.ensures c.undecided.ensures c.intersection-free.ensures in
     let m : makes_all (has c.union-valuation.result) c.args.entries.now ≡ true =
     subst (λ (es : List Entry). makes_all (has c.union-valuation.result) es ≡ true) (take_all _ _ c.loop-entry-test.false) c.loop-entry.invariant.0 in
     record {
       finds = record {
-        obeyed = follows_obeys (has c.union-valuation.result) c.args.under (counted_follows c.args.entries.now c.args.under c.intersection-free.result.bits c.next.counted.bits c.union-valuation.result
-            (c.clashes.ensures.apart c.if-clashes.false) f c.next.invariant.0 c.union-valuation.ensures);
+        obeyed = follows_obeys (has c.union-valuation.result) c.args.under (counted_follows c.args.entries.now c.args.under c.free-free.result.bits c.next.counted.bits c.union-valuation.result
+            (c.clashes.ensures.apart c.if-clashes.false) c.free-free.ensures c.next.invariant.0 c.union-valuation.ensures);
         made = m;
       };
-      order = first c.args.entries.now c.args.under c.intersection-free.result.bits c.next.counted.bits c.union-valuation.result.bits (omega arith) (omega arith) c.next.invariant.2
-          f c.next.invariant.0 c.union-valuation.ensures m c.next.invariant.1;
+      order = first c.args.entries.now c.args.under c.free-free.result.bits c.next.counted.bits c.union-valuation.result.bits (omega arith) (omega arith) c.next.invariant.2
+          c.free-free.ensures c.next.invariant.0 c.union-valuation.ensures m c.next.invariant.1;
     }

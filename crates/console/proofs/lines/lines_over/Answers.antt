@@ -1,7 +1,7 @@
 use Rattle.std.proofs.Common.{sym, ◌∙◌, subst, length}
 use Rattle.std.specs.List.{All}
 use Rattle.std.proofs.lemmas.List.Elements.{All-get_or}
-use Rattle.console.specs.Pieces.{Within}
+use Rattle.console.specs.Carrying.{Within}
 use Rattle.console.specs.declared.pieces.Piece.{Piece}
 use Rattle.console.proofs.Within.{pieces_within}
 use Rattle.console.proofs.Saying.{leads_new, leads_next, says}

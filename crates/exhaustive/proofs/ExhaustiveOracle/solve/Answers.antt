@@ -1,7 +1,6 @@
-use Rattle.std.proofs.Common.{rules, List, sym, ◌∙◌, arith}
+use Rattle.std.proofs.Common.{rules, List, sym, ◌∙◌}
 use Rattle.atoms.specs.declared.clauses.Entry.{Entry}
 use Rattle.atoms.proofs.Obeying.{obeys_follows, clash_never}
-use Rattle.atoms.proofs.Restricting.{free_named}
 use Rattle.oracle.specs.Oracles.{Finds, Unsatisfiable}
 use Rattle.exhaustive.proofs.Varying.{finds}
 use Rattle.exhaustive.proofs.ExhaustiveOracle.solve.Goals as goal
@@ -15,7 +14,6 @@ returns-then-clashes-clause-solves c =
 pub returns-clause-solves : goal.returns-clause-solves
 returns-clause-solves c =
     let f : Finds c.entries-entries.result.now c.args.under c.find.result =
-    finds c.entries-entries.result.now c.args.under c.intersection-free.result c.find.result (c.clashes.ensures.apart c.if-clashes.false)
-    (free_named c.entries-entries.result.now c.args.under c.named.result c.undecided.result c.intersection-free.result (omega arith) c.named.ensures c.undecided.ensures c.intersection-free.ensures)
-    c.find.ensures in
+    finds c.entries-entries.result.now c.args.under c.free.result c.find.result (c.clashes.ensures.apart c.if-clashes.false)
+    c.free.ensures c.find.ensures in
     search rules

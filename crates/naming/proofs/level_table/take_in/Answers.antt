@@ -5,8 +5,7 @@ use Rattle.clausal.proofs.Rows.{lawful_rows}
 use Rattle.clausal.specs.Counting.{count_of_names}
 use Rattle.naming.specs.Levels.{LevelLists, names_at, lists_of}
 use Rattle.naming.specs.TakenIn.{TakenAt}
-use Rattle.naming.proofs.Every.{level_read, level_beyond, read_other}
-use Rattle.naming.proofs.Ordered.{level_at}
+use Rattle.naming.proofs.AtLevel.{level_at, level_read, level_beyond, read_other}
 use Rattle.naming.proofs.Taking.{beyond_taken, level_taken, level_left}
 use Rattle.naming.proofs.level_table.take_in.Goals as goal
 

@@ -1,4 +1,4 @@
-use Rattle.std.proofs.Common.{◌≡◌, ◌+◌, ◌*◌}
+use Rattle.std.proofs.Common.{◌+◌, ◌*◌}
 use Rattle.random_rules.proofs.Draft.+modal_clause.Given as goal
 
 -- a clause asks for literals of its depth, a literal for a box or diamond over a clause that is less deep
@@ -10,6 +10,3 @@ decreases-literal l = 3 * l.depth + 1
 
 abbrev pub decreases-modal : goal.decreases-modal
 decreases-modal l = 3 * l.depth + 3
-
-abbrev pub invariant-clause-loop : goal.invariant-clause-loop
-invariant-clause-loop l = l.depth ≡ l.fn.depth

@@ -6,7 +6,7 @@ use Rattle.atoms.specs.declared.clauses.Clause.{Clause}
 use Rattle.atoms.specs.declared.sets.AtomSet.{AtomSet}
 use Rattle.atoms.proofs.Members.{has_high}
 use Rattle.atoms.proofs.Obeying.{undecided_of}
-use Rattle.search.specs.Judging.{true_at, open_at, Sole, Judged, Forces}
+use Rattle.search.specs.Judging.{trail_makes_at, undecided_at, Sole, Judged, Forces}
 use Rattle.search.specs.declared.status.Status.{Status}
 use Rattle.search.specs.declared.status.Status.TheVariants.{Forced, Open}
 use Rattle.search.proofs.Clausewise.{all_out, leaves_met, leaves_both, leaves_many, signed}
@@ -14,27 +14,27 @@ use Rattle.search.proofs.judging.judge.Goals as goal
 
 -- the set of the atoms of true literals, as the code computes it
 true_is : (w : Assumptions) (c : Clause) (p n r : AtomSet) → ((i : ℕ) → has p i ≡ has c.plain i && has w.within i) → ((i : ℕ) → has n i ≡ has c.negated i && has w.without i)
-    → ((i : ℕ) → has r i ≡ has p i || has n i) → (i : ℕ) → has r i ≡ true_at w c i
+    → ((i : ℕ) → has r i ≡ has p i || has n i) → (i : ℕ) → has r i ≡ trail_makes_at w c i
 true_is w c p n r a b d i = let x = a i in let y = b i in let z = d i in cc
 
 -- a set with a member has one below 64
-some_open : (w : Assumptions) (s r : AtomSet) → r.bits < 2 ^ 64 → ((i : ℕ) → open_at w s i ≡ has r i) → (((i : ℕ) → has r i ≡ false) → false ≡ true)
-    → ((a : ℕ) → a < 64 → open_at w s a ≡ false) → ⊥
+some_open : (w : Assumptions) (s r : AtomSet) → r.bits < 2 ^ 64 → ((i : ℕ) → undecided_at w s i ≡ has r i) → (((i : ℕ) → has r i ≡ false) → false ≡ true)
+    → ((a : ℕ) → a < 64 → undecided_at w s a ≡ false) → ⊥
 some_open w s r fits is some none = all_out (has r) false (λ i l. has_high 64 r.bits i fits l) some refl (λ a l. sym (is a) ∙ none a l)
 
 -- a set with one member below 64 has just that
-sole_low : (w : Assumptions) (s r : AtomSet) → r.bits < 2 ^ 64 → ((i : ℕ) → open_at w s i ≡ has r i) → (y : ℕ) → y < 64 → ((a : ℕ) → a < 64 → open_at w s a ≡ eqb y a) → Sole r y
+sole_low : (w : Assumptions) (s r : AtomSet) → r.bits < 2 ^ 64 → ((i : ℕ) → undecided_at w s i ≡ has r i) → (y : ℕ) → y < 64 → ((a : ℕ) → a < 64 → undecided_at w s a ≡ eqb y a) → Sole r y
 sole_low w s r fits is y ly h = record { small = ly; members = λ i. grind (arith, nat_tests, has_high 64 r.bits i fits, is i, h i) }
 
 -- undecided literals of one sign alone: r has their atoms
-one_sign : (h : Bool) (w : Assumptions) (c : Clause) (r : AtomSet) (o : Option ℕ) (s : Status) → r.bits < 2 ^ 64 → ((a : ℕ) → true_at w c a ≡ false)
-    → ((a : ℕ) → open_at w (signed h c) a ≡ has r a) → ((a : ℕ) → open_at w (signed (not h) c) a ≡ false) → (((a : ℕ) → has r a ≡ false) → false ≡ true)
+one_sign : (h : Bool) (w : Assumptions) (c : Clause) (r : AtomSet) (o : Option ℕ) (s : Status) → r.bits < 2 ^ 64 → ((a : ℕ) → trail_makes_at w c a ≡ false)
+    → ((a : ℕ) → undecided_at w (signed h c) a ≡ has r a) → ((a : ℕ) → undecided_at w (signed (not h) c) a ≡ false) → (((a : ℕ) → has r a ≡ false) → false ≡ true)
     → MatchOption o ((a : ℕ) → Sole r a → ⊥) (λ a. Sole r a) → (o ≡ None → s ≡ Open) → ((a : ℕ) → o ≡ Some a → s ≡ Forced (record { atom = a; holds = h })) → Judged w c s
 one_sign h w c r None s fits untrue is other some k e f =
     subst (λ (x : Status). Judged w c x) (sym (e refl)) (leaves_many h w c (some_open w (signed h c) r fits is some) (λ y l g. k y (sole_low w (signed h c) r fits is y l g)))
 one_sign h w c r (Some a) s fits untrue is other some k e f = subst (λ (x : Status). Judged w c x) (sym (f a refl)) (by h is other)
   where
-    by : (h : Bool) → ((i : ℕ) → open_at w (signed h c) i ≡ has r i) → ((i : ℕ) → open_at w (signed (not h) c) i ≡ false) → Forces w c (record { atom = a; holds = h })
+    by : (h : Bool) → ((i : ℕ) → undecided_at w (signed h c) i ≡ has r i) → ((i : ℕ) → undecided_at w (signed (not h) c) i ≡ false) → Forces w c (record { atom = a; holds = h })
     by true is other = record { small = k.small; untrue = λ i _. untrue i; plain = λ i _. is i ∙ k.members i; negated = λ i _. other i }
     by false is other = record { small = k.small; untrue = λ i _. untrue i; plain = λ i _. other i; negated = λ i _. is i ∙ k.members i }
 

@@ -5,20 +5,20 @@ use Rattle.atoms.specs.Sets.{has, LowestIn}
 use Rattle.atoms.specs.declared.assumptions.Assumptions.{Assumptions}
 use Rattle.atoms.specs.declared.clauses.Literal.{Literal}
 use Rattle.atoms.specs.declared.sets.AtomSet.{AtomSet}
-use Rattle.search.specs.Searches.{Full, LowestOpen, clash, conflict, follow, full, try_in, try_out}
+use Rattle.search.specs.Searches.{Full, LowestUndecided, clash, conflict, follow, full, try_in, try_out}
 use Rattle.search.proofs.AllOut.{out_searched}
 use Rattle.search.proofs.Soundness.{first_forces}
 use Rattle.search.proofs.searching.+search.Goals as goal
 
--- the trail that the first trial left is the one before it
-joined : (u w r : Assumptions) (x : Literal) → u ≡ w → Joined u x r → Joined w x r
-joined u w r x e j = subst (λ (y : Assumptions). Joined y x r) e j
+-- the trail that a trial begins with and its literal, by what they are equal to
+joined : {u w r : Assumptions} {x y : Literal} → u ≡ w → x ≡ y → Joined u x r → Joined w y r
+joined {w = w} {r = r} {x = x} e f j = subst (λ (y : Literal). Joined w y r) f (subst (λ (u : Assumptions). Joined u x r) e j)
 
 -- what the tests told of the trail
 all_full : (w : Assumptions) (u : AtomSet) → ((i : ℕ) → has u i ≡ ltb i 64 && not (settled w i)) → ((i : ℕ) → has u i ≡ false) → Full w
 all_full w u e none a l = grind (arith, nat_tests, e a, none a)
 
-lowest_open : (w : Assumptions) (u : AtomSet) (a : ℕ) → ((i : ℕ) → has u i ≡ ltb i 64 && not (settled w i)) → LowestIn u a → LowestOpen w a
+lowest_open : (w : Assumptions) (u : AtomSet) (a : ℕ) → ((i : ℕ) → has u i ≡ ltb i 64 && not (settled w i)) → LowestIn u a → LowestUndecided w a
 lowest_open w u a e k = record {
   small = k.small;
   free = grind (arith, nat_tests, e a, k.member);
@@ -64,7 +64,7 @@ returns-in-Some-search t c =
       same = search rules;
       order = try_out c.in-Some.atom (c.clashes.ensures.apart c.if-clashes.false) c.in-Open.ensures
           (lowest_open c.args.trail.now c.undecided.result c.in-Some.atom c.undecided.ensures c.in-Some.ensures)
-          c.begin-trial-in-Open.ensures.joined c.in-Some-search.ensures.order;
+          (joined refl c.negation.ensures c.begin-trial-in-Open.ensures.joined) c.in-Some-search.ensures.order;
     }
 
 pub returns-in_default-search : goal.returns-in_default-search
@@ -73,6 +73,6 @@ returns-in_default-search t c =
       same = search rules;
       order = try_in c.in-Some.atom (c.clashes.ensures.apart c.if-clashes.false) c.in-Open.ensures
           (lowest_open c.args.trail.now c.undecided.result c.in-Some.atom c.undecided.ensures c.in-Some.ensures)
-          c.begin-trial-in-Open.ensures.joined c.in_default-search.ensures.order
-          (joined _ c.args.trail.now _ _ (search rules) c.begin-trial-in-Open-2.ensures.joined) c.search-in-Open-2.ensures.order;
+          (joined refl c.negation.ensures c.begin-trial-in-Open.ensures.joined) c.in_default-search.ensures.order
+          (joined (search rules) c.positive.ensures c.begin-trial-in-Open-2.ensures.joined) c.search-in-Open-2.ensures.order;
     }

@@ -1,4 +1,4 @@
-use Rattle.session.specs.Effects.{Defined}
+use Rattle.session.specs.Defined.{Defined}
 use Rattle.std.proofs.Common.{take}
 use Rattle.session.proofs.defining.define.Given as goal
 

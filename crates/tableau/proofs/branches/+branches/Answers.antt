@@ -13,12 +13,12 @@ pub is_open-returns-in-Always : goal.is_open-returns-in-Always
 is_open-returns-in-Always t c = rw c.in-More.is (always _ _ _ (claimed c.in-More.claim) _ _ (rw c.in-Always.is at c.step.ensures) c.is_open.ensures)
 
 pub is_open-returns-then-not-contains : goal.is_open-returns-then-not-contains
-is_open-returns-then-not-contains t c = rw c.in-More.is (letter _ _ _ (claimed c.in-More.claim) _ _ c.in-Letter.literal (rw c.in-Letter.is at c.step.ensures) c.is_open-then-not-contains.ensures)
+is_open-returns-then-not-contains t c = rw c.in-More.is (letter _ _ _ (claimed c.in-More.claim) _ _ c.in-Letter.letter (rw c.in-Letter.is at c.step.ensures) c.is_open-then-not-contains.ensures)
 
 pub is_open-returns-else-not-contains : goal.is_open-returns-else-not-contains
 is_open-returns-else-not-contains t c =
     rw c.in-More.is
-    (clash _ _ _ (claimed c.in-More.claim) _ _ c.in-Letter.literal (rw c.in-Letter.is at c.step.ensures) (rw c.opposite.ensures at (c.contains.ensures.0 c.if-not-contains.false)) (not_from_true _ c.if-not-contains.false))
+    (clash _ _ _ (claimed c.in-More.claim) _ _ c.in-Letter.letter (rw c.in-Letter.is at c.step.ensures) (rw c.opposite.ensures at (c.contains.ensures.0 c.if-not-contains.false)) (not_from_true _ c.if-not-contains.false))
 
 pub is_open-returns-in-Same : goal.is_open-returns-in-Same
 is_open-returns-in-Same t c = rw c.in-More.is (same _ _ _ (claimed c.in-More.claim) _ _ c.in-Same.c (rw c.in-Same.is at c.step.ensures) c.is_open-in-Same.ensures)

@@ -1,5 +1,5 @@
 use Rattle.std.proofs.Common.{arith}
-use Rattle.atoms.proofs.Below.{count_ones}
+use Rattle.atoms.proofs.Counts.{count_ones}
 use Rattle.atoms.proofs.sets.AtomSet.len.Goals as goal
 
 pub returns : goal.returns

@@ -1,5 +1,5 @@
 use Rattle.std.proofs.Common.{arith}
-use Rattle.atoms.proofs.Members.{has_lowest, not_zero}
+use Rattle.atoms.proofs.Lowest.{has_lowest, not_zero}
 use Rattle.atoms.proofs.sets.AtomSet.lowest.Goals as goal
 
 pub returns : goal.returns

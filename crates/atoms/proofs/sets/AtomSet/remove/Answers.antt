@@ -4,7 +4,7 @@ use lib.Bits.{bit_and}
 use Rattle.std.proofs.lemmas.Bool.Decides.{nat_tests}
 use Rattle.atoms.specs.Bits.{bit}
 use Rattle.atoms.proofs.Members.{has_remove, has_high}
-use Rattle.atoms.proofs.Below.{count_less}
+use Rattle.atoms.proofs.Counts.{count_less}
 use Rattle.atoms.proofs.sets.AtomSet.remove.Goals as goal
 
 pub returns-then-a-lt-ATOMS : goal.returns-then-a-lt-ATOMS

@@ -1,8 +1,10 @@
 use Rattle.std.proofs.Common.{ℕ, [], ◌∷◌, sym, subst, arith}
 use Rattle.stack.specs.Entries.{entries_of}
-use Rattle.naming.specs.Walk.{Walking}
+use Rattle.lists.specs.Lists.{here}
+use Rattle.naming.proofs.Places.{within}
+use Rattle.naming.specs.Walk.{WalkInvariant}
 use Rattle.clausal.proofs.Rows.{lawful_rows}
-use Rattle.naming.proofs.Walking.{due_none, due_not, due_two, due_modal, visits, due_within}
+use Rattle.naming.proofs.Walking.{due_none, due_not, due_two, due_modal, visits}
 use Rattle.naming.proofs.reach.Walk.follow.Goals as goal
 
 pub returns-in-False-clause-walk : goal.returns-in-False-clause-walk
@@ -17,13 +19,13 @@ pub returns-in-Some-clause-walk : goal.returns-in-Some-clause-walk
 returns-in-Some-clause-walk c =
     let v = c.visit-in-Some.ensures in
     let w = due_modal _ c.args.place _ _ c.requires.row _ c.from.ensures c.requires.due _ c.in-Box.is in
-    let x = subst (λ (l : ℕ). Walking c.args.self.now.rows.now (record { row = c.in-Box.c; plus = c.args.place.plus; level = l } ∷ []) c.args.self.now.marks (entries_of c.args.self.now.todo)) (sym c.in-Some.ensures.0) w in
+    let x = subst (λ (l : ℕ). WalkInvariant c.args.self.now.rows.now (record { row = c.in-Box.c; plus = c.args.place.plus; level = l } ∷ []) c.args.self.now.marks (entries_of c.args.self.now.todo)) (sym c.in-Some.ensures.0) w in
     visits _ (lawful_rows _ c.args.self.now.lawful) _ _ _ _ _ _ v.marks v.todo x
 
 pub returns-in_default-clause-walk : goal.returns-in_default-clause-walk
 returns-in_default-clause-walk c =
     let w = due_modal _ c.args.place _ _ c.requires.row _ c.from.ensures c.requires.due _ c.in-Box.is in
-    let f = (due_within _ (lawful_rows _ c.args.self.now.lawful) _ _ _ _ w).level in
+    let f = (within _ (lawful_rows _ c.args.self.now.lawful) (w.due _ here)).level in
     absurd (omega (arith, c.in_default.ensures))
 
 pub returns-in-And-clause-walk : goal.returns-in-And-clause-walk

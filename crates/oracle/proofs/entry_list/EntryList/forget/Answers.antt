@@ -1,11 +1,13 @@
-use Rattle.std.proofs.Common.{rules, tests, ◌≡◌, map, length, ap, ◌∙◌, arith}
+use Rattle.std.proofs.Common.{rules, tests, ◌≡◌, length, ap, ◌∙◌, arith}
 use Rattle.std.proofs.lemmas.Iterator.{YieldsList-from_slice}
 use Rattle.std.proofs.lemmas.Iterator.Consumers.{YieldsList-at, YieldsList-from_filter, YieldsList-turn, YieldsList-end}
 use Rattle.std.proofs.lemmas.List.{length-map}
 use Rattle.atoms.specs.Clauses.{is_definition, definitions, learnt}
 use Rattle.fixed_list.specs.Items.{items_of}
 use Rattle.fixed_list.proofs.Counted.{accepted, length_items}
-use Rattle.oracle.proofs.Storing.{counted, kept_again, kept_none}
+use Rattle.lists.proofs.Members.{kept_twice}
+use Rattle.atoms.proofs.Marked.{none_learnt}
+use Rattle.oracle.proofs.Storing.{counted}
 use Rattle.oracle.proofs.entry_list.EntryList.forget.Goals as goal
 
 pub unwrap-requires : goal.unwrap-requires
@@ -31,10 +33,10 @@ invariant_of-self c =
     c.filter-entry-items.ensures.closure (λ x r q k. search (rules, tests))))
     c.loop-entry.yielded _ c.loop-entry.yielded_by _ _ c.in-None.is c.next.ensures.steps).0 in
     record {
-      defines = ap (λ xs. length (definitions xs)) e ∙ ap length (kept_again (items_of c.args.self.now.entries)) ∙ c.args.self.now.defines;
-      teaches = ap (λ xs. length (learnt xs)) e ∙ ap length (kept_none (items_of c.args.self.now.entries));
-      few = c.args.self.now.few;
-      short = omega arith;
+      definitions_counted = ap (λ xs. length (definitions xs)) e ∙ ap length (kept_twice is_definition (items_of c.args.self.now.entries)) ∙ c.args.self.now.definitions_counted;
+      learnt_counted = ap (λ xs. length (learnt xs)) e ∙ ap length (none_learnt (items_of c.args.self.now.entries));
+      definitions_few = c.args.self.now.definitions_few;
+      learnt_few = omega arith;
     }
 
 pub returns : goal.returns

@@ -1,5 +1,4 @@
 use Rattle.std.proofs.Common.{◌≡◌, map}
-use Rattle.atoms.specs.declared.clauses.Entry.{Entry}
 use Rattle.fixed_list.specs.Items.{items_of}
 use Rattle.oracle.proofs.entry_list.EntryList.forget.Given as goal
 

@@ -11,8 +11,8 @@ use Rattle.oracle.proofs.entry_list.EntryList.take.Goals as goal
 
 -- where there is room for an entry there is a slot
 inside : (r : EntryList) (m : Mark) → room m (held_of r) ≡ true → length (held_of r) < 225
-inside r Definition h = let s = r.short in grind (arith, nat_tests, counted (held_of r), r.teaches)
-inside r Learnt h = let s = r.few in grind (arith, nat_tests, counted (held_of r), r.defines)
+inside r Definition h = let s = r.learnt_few in grind (arith, nat_tests, counted (held_of r), r.learnt_counted)
+inside r Learnt h = let s = r.definitions_few in grind (arith, nat_tests, counted (held_of r), r.definitions_counted)
 
 pub unwrap-requires : goal.unwrap-requires
 unwrap-requires c = accepted _ _ _ _ _ c.push.ensures.answer (inside c.args.self.now c.args.entry.mark (search rules))
