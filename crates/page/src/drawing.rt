@@ -30,14 +30,14 @@ fn world<W: fmt::Write>(
     indent(row.level, f)?;
     write!(f, "world {number}:")?;
     letters(row.letters, f)?;
-    // As the evaluation of a sheet finds them: an `impl Iterator` as a result gets no proof, and a type of its own is longer.
-    let children = tree
+    // Among the later rows alone, as the evaluation of a sheet finds them.
+    let first = number + 1;
+    let children = tree[first..]
         .iter()
         .enumerate()
-        .skip(number + 1)
         .filter(|(_, child)| child.parent == number as u64);
-    for (number, child) in children {
-        world(tree, number, child, f)?;
+    for (offset, child) in children {
+        world(tree, first + offset, child, f)?;
     }
     Ok(())
 }

@@ -62,7 +62,7 @@ impl Page {
         ensures { Moves (number_taken (state_of self.old) number at) (state_of self.new) result }
     {
         self.digits = None;
-        match self.expect {
+        match &mut self.expect {
             Expect::Byte => {
                 let byte = byte_of(number, at)?;
                 self.bytes.push(byte)?;
@@ -71,16 +71,17 @@ impl Page {
             Expect::Level { parent } => {
                 let level = byte_of(number, at)?;
                 self.expect = Expect::Letter(SheetRow {
-                    parent,
+                    parent: *parent,
                     level,
                     letters: AtomSet::NONE,
                 });
             }
+            // in place, so that a letter does not move the row
             Expect::Letter(row) => {
                 if number >= u64::from(ATOMS) {
                     return Err(PageFault::from(TextFault::TooLarge(at)));
                 }
-                self.expect = Expect::Letter(with_letter(row, number as u8));
+                *row = with_letter(*row, number as u8);
             }
         }
         Ok(())
@@ -112,7 +113,9 @@ impl Page {
         Ok(())
     }
 
-    // The end of a line ends its last number too.
+    // The end of a line ends its last number too. In line: the place for what a call answers is cleared for each byte of a
+    // text.
+    #[inline(always)]
     fn close_line(&mut self, at: usize) -> Result<(), PageFault>
         ensures { Moves (line_closed (state_of self.old) at) (state_of self.new) result }
     {
@@ -123,8 +126,8 @@ impl Page {
     fn add_digit(&mut self, byte: u8, at: usize) -> Result<(), PageFault>
         ensures { Moves (digit_added (state_of self.old) byte at) (state_of self.new) result }
     {
-        let base = u64::from(self.base());
         let digit = self.digit(byte).ok_or(TextFault::Unexpected(at))?;
+        let base = u64::from(self.base());
         let number = self
             .digits
             .unwrap_or(0)
