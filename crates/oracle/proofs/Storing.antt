@@ -2,7 +2,8 @@
 use Rattle.std.proofs.Common.{◌≡◌, ℕ, ◌+◌, ◌<◌, ◌≤◌, cond, List, [], ◌∷◌, ◌++◌, map, length, get_or, set, sym, refl, ap, ◌∙◌, subst, arith, is_ok, Result}
 use Rattle.std.specs.Bool.{⊤}
 use Rattle.std.proofs.lemmas.List.Filters.{length-filter_both}
-use Rattle.std.proofs.lemmas.List.{map-set, length-map, get_or-set_same, get_or-set_other, get_or-map, get_or_past}
+use Rattle.std.proofs.lemmas.List.{map-set, length-map, get_or-set_same, get_or-set_other, get_or-map, get_or_past, nil_from_length}
+use Rattle.lists.proofs.Members.{kept_others}
 use Rattle.atoms.specs.Clauses.{is_learnt, is_definition, learnt, definitions}
 use Rattle.atoms.specs.declared.clauses.Entry.{Entry}
 use Rattle.oracle.specs.Oracles.{room, Taken}
@@ -13,6 +14,10 @@ use Rattle.oracle.specs.declared.entry_list.EntryList.{EntryList}
 -- how long a level's list is, by the two counts
 pub counted : (es : List Entry) → length (learnt es) + length (definitions es) ≡ length es
 counted es = length-filter_both is_learnt is_definition (λ _. refl) es
+
+-- where nothing is learnt, the definitions are all that is held
+pub all_defined : (es : List Entry) → length (learnt es) ≡ 0 → definitions es ≡ es
+all_defined es e = kept_others is_learnt es (nil_from_length (learnt es) e)
 
 -- the entries of the levels, where one level's list is written
 pub entries_here : (rs : List EntryList) (i : ℕ) (r : EntryList) → i < length rs → entries_in (set rs i r) i ≡ held_of r

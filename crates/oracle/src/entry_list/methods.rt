@@ -58,7 +58,18 @@ impl EntryList {
     }
 
     // Drops the learnt entries, and leaves the definitions in their order.
+    #[tactic(auto, using(crate::proofs::Storing::all_defined))]
     pub(crate) fn forget(&mut self)
+        ensures { held_of self.new ≡ definitions (held_of self.old) }
+    {
+        // most levels have none, and a list made anew is all of the room that it may want
+        if self.learnt_count > 0 {
+            self.drop_learnt();
+        }
+    }
+
+    // The same where there are some.
+    fn drop_learnt(&mut self)
         ensures { held_of self.new ≡ definitions (held_of self.old) }
     {
         let mut kept = ArrayVec::new(BLANK);

@@ -8,7 +8,7 @@ use Rattle.fixed_list.proofs.Counted.{accepted, length_items}
 use Rattle.lists.proofs.Members.{kept_twice}
 use Rattle.atoms.proofs.Marked.{none_learnt}
 use Rattle.oracle.proofs.Storing.{counted}
-use Rattle.oracle.proofs.entry_list.EntryList.forget.Goals as goal
+use Rattle.oracle.proofs.entry_list.EntryList.drop_learnt.Goals as goal
 
 pub unwrap-requires : goal.unwrap-requires
 unwrap-requires c =
