@@ -80,8 +80,8 @@ impl Clause {
         !plain.union(negated).is_empty()
     }
 
-    // The atoms that the clause names.
-    pub(crate) fn atoms(self) -> AtomSet
+    /// The atoms that the clause names.
+    pub fn atoms(self) -> AtomSet
         ensures { (i : ℕ) → has result i ≡ has_atom self i }
     {
         self.plain.union(self.negated)

@@ -15,7 +15,7 @@
 //! - `Literal::positive`, `Literal::negation`: the literal that an atom is in, or out.
 //! - `Clause::NONE`, `Clause::with`: a clause, made literal by literal.
 //! - `Clause::holds`, `all_hold`: whether a valuation makes a clause, or every entry, true.
-//! - `named`: the atoms that entries name.
+//! - `Clause::atoms`, `named`: the atoms that a clause names, or a list of entries.
 //!
 //! `assumptions`: the type `Assumptions`, the literals that a valuation is to obey.
 //! - `Assumptions::NONE`, `with`, `remove`: one literal more, or less.

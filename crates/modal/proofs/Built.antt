@@ -28,7 +28,7 @@ pub length_depths : (rs : List Row) → length (row_depths rs) ≡ length rs
 length_depths rs = omega (arith, length_built depth_of [] rs)
 
 -- a row's formula rests on those of its children alone
-same_form : (fs gs : List Formula) (n : ℕ) (r : Row) → children_earlier n r ≡ true → ((c : ℕ) → c < n → get_or fs c falsum ≡ get_or gs c falsum) → form_of fs r ≡ form_of gs r
+pub same_form : (fs gs : List Formula) (n : ℕ) (r : Row) → children_earlier n r ≡ true → ((c : ℕ) → c < n → get_or fs c falsum ≡ get_or gs c falsum) → form_of fs r ≡ form_of gs r
 same_form fs gs n r h e = grind (arith, nat_tests)
 
 pub record Placed (i : ℕ) (r : Row) : Type 0 where

@@ -1,7 +1,8 @@
 -- The bytes of a rule that is written, and that what is read and written again is the same.
-use Rattle.std.proofs.Common.{◌≡◌, ℕ, zero, suc, ◌+◌, ◌<◌, ◌≤◌, true, List, [], ◌∷◌, ◌++◌, length, get_or, drop, Ok, Err, sym, ap, append-nil, arith}
+use Rattle.std.proofs.Common.{◌≡◌, ℕ, zero, suc, ◌+◌, ◌<◌, ◌≤◌, true, List, [], ◌∷◌, ◌++◌, length, get_or, take, drop, Ok, Err, sym, ap, ◌∙◌, append_assoc, append-nil, arith}
 use Rattle.std.proofs.lemmas.Grind.{common_steps}
-use Rattle.std.proofs.lemmas.List.{flat_map_more}
+use Rattle.std.proofs.lemmas.List.{flat_map_more, take_at}
+use Rattle.std.proofs.lemmas.Slice.{drop-append-drop}
 use Rattle.std.proofs.lemmas.List.Concat.{length-flat_map}
 use Rattle.std.proofs.lemmas.Bool.Decides.{nat_tests}
 use Rattle.std.specs.List.{sum_by}
@@ -14,6 +15,13 @@ use Rattle.modal.specs.declared.row.Row.{Row}
 
 pub written_size : (rs : List Row) → length (written rs) ≡ sum_by (λ r. length (bytes_of r)) rs
 written_size rs = length-flat_map bytes_of rs
+
+-- what a row more is to what is written: its bytes stand behind those of the rows before, and the rest is as it was
+pub put_more : (w b out₀ out out' : List ℕ) (at : ℕ) → length w ≡ at → out ≡ w ++ drop at out₀ → out' ≡ take at out ++ (b ++ drop (at + length b) out) → out' ≡ (w ++ b) ++ drop (at + length b) out₀
+put_more w b out₀ out out' at l e h =
+    let front = ap (take at) e ∙ take_at w (drop at out₀) at l in
+    let back = ap (drop (at + length b)) e ∙ drop-append-drop at out₀ w (at + length b) (omega arith) l in
+    h ∙ (λ i. front i ++ (b ++ back i)) ∙ sym (append_assoc w b (drop (at + length b) out₀))
 
 -- a row's bytes are those that it was read from
 front_of : (k : ℕ) (bs : List ℕ) → k ≤ 7 → body_length k ≤ length bs → bytes_of (row_of k (get_or bs 0 0) (get_or bs 1 0)) ++ drop (body_length k) bs ≡ k ∷ bs
