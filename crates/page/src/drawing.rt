@@ -49,6 +49,8 @@ fn indent<W: fmt::Write>(level: u8, f: &mut fmt::Formatter<W>) -> fmt::Result {
     Ok(())
 }
 
+// Not in line: the loop over the rows of a tree stays short.
+#[inline(never)]
 fn letters<W: fmt::Write>(set: AtomSet, f: &mut fmt::Formatter<W>) -> fmt::Result {
     if set.is_empty() {
         return writeln!(f, " no letters");

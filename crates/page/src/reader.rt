@@ -62,7 +62,7 @@ impl Page {
         ensures { Moves (number_taken (state_of self.old) number at) (state_of self.new) result }
     {
         self.digits = None;
-        match self.expect {
+        match &mut self.expect {
             Expect::Byte => {
                 let byte = byte_of(number, at)?;
                 self.bytes.push(byte)?;
@@ -71,16 +71,17 @@ impl Page {
             Expect::Level { parent } => {
                 let level = byte_of(number, at)?;
                 self.expect = Expect::Letter(SheetRow {
-                    parent,
+                    parent: *parent,
                     level,
                     letters: AtomSet::NONE,
                 });
             }
+            // in place, so that a letter does not move the row
             Expect::Letter(row) => {
                 if number >= u64::from(ATOMS) {
                     return Err(PageFault::from(TextFault::TooLarge(at)));
                 }
-                self.expect = Expect::Letter(with_letter(row, number as u8));
+                *row = with_letter(*row, number as u8);
             }
         }
         Ok(())
@@ -141,8 +142,8 @@ impl Page {
         ensures { Moves (byte_read (state_of self.old) byte at) (state_of self.new) result }
     {
         match byte {
-            _ if self.comment && byte != b'\n' => Ok(()),
             b'\n' => self.close_line(at),
+            _ if self.comment => Ok(()),
             b' ' | b'\t' | b'\r' => self.end_number(at),
             b'#' => {
                 self.end_number(at)?;
